@@ -1,13 +1,16 @@
-// A library with one function.
+//! The outside of the program: where bytes come from and where they go.
+//!
+//! A [`Source`] tells what it has left to give, and a [`Sink`] what was written to it, where they know: over memory
+//! they do, over standard input and output they don't. Each has a count of faults, which never falls, and fails only
+//! where that count rose in the call.
 #![tactic(auto)]
 
-ghost use Rattle.std.specs.Prelude.{◌≡◌};
-ghost use Rattle.sw_io.specs.Echo.{echo_of};
+mod adapters;
+mod memory;
+mod sink;
+mod source;
 
-// The `ensures` clause is the contract: what `echo` returns is `echo_of` of its argument, a definition
-// in `specs/Echo.antt`, which a caller's clause can cite too.
-pub fn echo(x: usize) -> usize
-    ensures { result ≡ echo_of x }
-{
-    x
-}
+pub use crate::adapters::{ReadSource, WriteSink};
+pub use crate::memory::{MemSink, MemSource};
+pub use crate::sink::{Sink, WriteFailed, write_all};
+pub use crate::source::{ReadFailed, Source, read_up_to};

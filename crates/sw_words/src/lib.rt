@@ -1,13 +1,11 @@
-// A library with one function.
+//! Words that the contracts of several crates cite: counts that never fall (`specs/Counts.antt`).
 #![tactic(auto)]
 
-ghost use Rattle.std.specs.Prelude.{◌≡◌};
-ghost use Rattle.sw_words.specs.Echo.{echo_of};
+ghost use Rattle.std.specs.Prelude.{ℕ, ◌≤◌};
+ghost use Rattle.sw_words.specs.Counts.{Rose};
 
-// The `ensures` clause is the contract: what `echo` returns is `echo_of` of its argument, a definition
-// in `specs/Echo.antt`, which a caller's clause can cite too.
-pub fn echo(x: usize) -> usize
-    ensures { result ≡ echo_of x }
-{
-    x
-}
+/// Once a count has risen it is as good as risen from each earlier value.
+pub fn rose_law()
+    ensures earlier { (first before after : ℕ) → first ≤ before → Rose before after → Rose first after }
+    ensures later { (before after last : ℕ) → after ≤ last → Rose before after → Rose before last }
+{}
