@@ -1,13 +1,9 @@
-// A library with one function.
+//! The erasure code: a segment becomes k data and m parity fragments, of which any k give it back. The generator matrix
+//! is that of ISA-L's `gf_gen_cauchy1_matrix` over the field of 256 elements.
 #![tactic(auto)]
 
-ghost use Rattle.std.specs.Prelude.{◌≡◌};
-ghost use Rattle.sw_cauchy.specs.Echo.{echo_of};
+mod code;
+mod gather;
 
-// The `ensures` clause is the contract: what `echo` returns is `echo_of` of its argument, a definition
-// in `specs/Echo.antt`, which a caller's clause can cite too.
-pub fn echo(x: usize) -> usize
-    ensures { result ≡ echo_of x }
-{
-    x
-}
+pub use crate::code::Code;
+pub use crate::gather::Gather;

@@ -1,13 +1,16 @@
-// A library with one function.
+//! The types that every crate of the cluster speaks of: bytes, timestamps, names of objects, and the readers and
+//! printers of their texts.
 #![tactic(auto)]
 
-ghost use Rattle.std.specs.Prelude.{◌≡◌};
-ghost use Rattle.sw_types.specs.Echo.{echo_of};
+mod bytes;
+mod decimal;
+mod hexadecimal;
+mod memory;
+mod name;
+mod stamp;
 
-// The `ensures` clause is the contract: what `echo` returns is `echo_of` of its argument, a definition
-// in `specs/Echo.antt`, which a caller's clause can cite too.
-pub fn echo(x: usize) -> usize
-    ensures { result ≡ echo_of x }
-{
-    x
-}
+pub use crate::bytes::Bytes;
+pub use crate::hexadecimal::{HexFault, print_hex, read_hex};
+pub use crate::memory::NoMemory;
+pub use crate::name::{Name, NameFault, Part};
+pub use crate::stamp::Stamp;

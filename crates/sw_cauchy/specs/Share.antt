@@ -1,0 +1,20 @@
+-- Fragments that were gathered to decode a segment.
+use Rattle.std.specs.Prelude.{◌≡◌, ℕ, List}
+use Rattle.std.specs.List.{All}
+use Rattle.sw_cauchy.specs.Stripe.{fragment}
+
+-- a fragment and its index
+pub record Share : Type 0 where
+  pub index : ℕ
+  pub bytes : List ℕ
+
+-- what was gathered, of a code of k data and m parity fragments of one width
+pub record Gathered : Type 0 where
+  pub k : ℕ
+  pub m : ℕ
+  pub width : ℕ
+  pub shares : List Share
+
+-- each share is that fragment of these pieces
+abbrev pub AreFragments : ℕ → ℕ → List ℕ → List Share → Type 0
+AreFragments k width pieces shares = All (λ share. share.bytes ≡ fragment k width pieces share.index) shares

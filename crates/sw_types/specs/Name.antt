@@ -1,0 +1,50 @@
+-- Names of objects: an account, a container and an object.
+use Rattle.std.specs.Prelude.{ℕ, ◌==◌, Bool, true, false, not, ◌&&◌, if◌then◌else◌, nat_eq, nat_lt, List, [], ◌∷◌, ◌++◌, length, Option, Some, None}
+use Rattle.std.specs.Cmp.Lexicographic.{pointwise}
+use Rattle.std.specs.List.{list_any}
+use Rattle.std.specs.Str.{is_utf8}
+use Rattle.sw_types.specs.declared.name.Part.{Part}
+use Rattle.sw_types.specs.declared.name.Part.TheVariants.{Account, Container, Object}
+use Rattle.sw_types.specs.declared.name.NameFault.{NameFault}
+use Rattle.sw_types.specs.declared.name.NameFault.TheVariants.{Empty, TooLong, NotUtf8, Nul, Slash}
+
+-- the bytes of the three parts
+pub record Parts : Type 0 where
+  pub account : List ℕ
+  pub container : List ℕ
+  pub object : List ℕ
+
+-- whether two names have the same parts
+abbrev pub name_eq : Parts → Parts → Bool
+name_eq a b = pointwise nat_eq a.account b.account && (pointwise nat_eq a.container b.container && pointwise nat_eq a.object b.object)
+
+-- the greatest number of bytes of a part
+abbrev pub most_bytes : Part → ℕ
+most_bytes Account = 256
+most_bytes Container = 256
+most_bytes Object = 1024
+
+-- an object may hold slashes
+abbrev pub may_hold_slash : Part → Bool
+may_hold_slash Account = false
+may_hold_slash Container = false
+may_hold_slash Object = true
+
+-- the first fault of a part
+abbrev pub part_fault : Part → List ℕ → Option NameFault
+part_fault part text =
+    if length text == 0 then Some (Empty part)
+    else if nat_lt (most_bytes part) (length text) then Some (TooLong part (length text))
+    else if not (is_utf8 text) then Some (NotUtf8 part)
+    else if list_any (λ byte. byte == 0) text then Some (Nul part)
+    else if not (may_hold_slash part) && list_any (λ byte. byte == 47) text then Some (Slash part)
+    else None
+
+abbrev pub or_else : Option NameFault → Option NameFault → Option NameFault
+or_else (Some fault) other = Some fault
+or_else None other = other
+
+-- the first fault of the parts of a name, in their order
+abbrev pub name_fault : Parts → Option NameFault
+name_fault parts = or_else (part_fault Account parts.account)
+    (or_else (part_fault Container parts.container) (part_fault Object parts.object))

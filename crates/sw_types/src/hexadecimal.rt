@@ -1,0 +1,48 @@
+//! Bytes as hex text: `-` for none, and else two digits a byte.
+
+ghost use Rattle.std.specs.Prelude.{◌≡◌, Some, None, IfOk, IsErrOf};
+ghost use Rattle.sw_types.specs.Hex.{bytes_of_hex, hex_text};
+
+use crate::{Bytes, NoMemory};
+use hex::FromHexError;
+use std::alloc::Global;
+use thiserror::Error;
+
+/// Why a text was not read as hex.
+#[derive(Clone, Copy, Debug, PartialEq, Eq, Error)]
+pub enum HexFault {
+    /// It is neither `-` nor a nonempty even number of hexadecimal digits.
+    #[error("not hex")]
+    Bad,
+    #[error("out of memory")]
+    NoMemory,
+}
+
+/// The bytes that a text spells: `-` spells none, and two hexadecimal digits of either case spell one.
+pub fn read_hex(alloc: Global, text: &[u8]) -> Result<Bytes, HexFault>
+    ensures read { IfOk result (λ bytes. bytes_of_hex text.now ≡ Some bytes) }
+    ensures bad { IsErrOf result HexFault.Bad → bytes_of_hex text.now ≡ None }
+{
+    if text == b"-".as_slice() {
+        return Ok(Bytes::new(alloc));
+    }
+    if text.is_empty() {
+        return Err(HexFault::Bad);
+    }
+    match hex::decode(alloc, text) {
+        Ok(bytes) => Ok(Bytes::from(bytes)),
+        Err(FromHexError::OutOfMemory) => Err(HexFault::NoMemory),
+        Err(_) => Err(HexFault::Bad),
+    }
+}
+
+/// The text of some bytes, in lower case.
+pub fn print_hex(alloc: Global, bytes: &[u8]) -> Result<Bytes, NoMemory>
+    ensures { IfOk result (λ text. text ≡ hex_text bytes.now) }
+{
+    if bytes.is_empty() {
+        return Bytes::from_slice(alloc, b"-");
+    }
+    let text = hex::encode(alloc, bytes)?;
+    Ok(Bytes::from(text.into_bytes()))
+}

@@ -1,0 +1,178 @@
+//! Names of objects.
+
+ghost use Rattle.std.specs.Prelude.{◌≡◌, ◌⊎◌, Some, None, IfOk, IfErr, MatchResult, MatchOption, nat_eq, ◌==◌, ◌&&◌, not, true, false};
+ghost use Rattle.std.proofs.Common.{rules};
+ghost use Rattle.std.specs.Cmp.Rules.{comparing};
+ghost use Rattle.std.specs.List.{list_any};
+ghost use Rattle.std.specs.Str.{is_utf8};
+ghost use Rattle.sw_types.specs.Name.{most_bytes, may_hold_slash, name_eq, part_fault, name_fault};
+
+use std::alloc::{AllocError, Global};
+use std::marker::Model;
+use thiserror::Error;
+
+/// A part of a name.
+#[derive(Clone, Copy, Debug, PartialEq, Eq)]
+pub enum Part {
+    Account,
+    Container,
+    Object,
+}
+
+impl Part {
+    // The greatest number of bytes.
+    fn most_bytes(self) -> usize
+        ensures { result ≡ most_bytes self }
+    {
+        match self {
+            Part::Account | Part::Container => 256,
+            Part::Object => 1024,
+        }
+    }
+
+    fn is_broken_by_slash(self, bytes: &[u8]) -> bool
+        ensures { result ≡ (not (may_hold_slash self) && list_any (λ byte. byte == 47) bytes.now) }
+    {
+        match self {
+            Part::Account | Part::Container => bytes.contains(&b'/'),
+            Part::Object => false,
+        }
+    }
+
+    // The text of a part, or the first fault of its bytes.
+    fn read(self, bytes: &[u8]) -> Result<&str, NameFault>
+        ensures { MatchResult result
+            (λ text. (part_fault self bytes.now ≡ None) × (text.now ≡ bytes.now))
+            (λ fault. part_fault self bytes.now ≡ Some fault) }
+    {
+        if bytes.is_empty() {
+            return Err(NameFault::Empty(self));
+        }
+        if bytes.len() > self.most_bytes() {
+            return Err(NameFault::TooLong(self, bytes.len()));
+        }
+        let Some(text) = text_of(bytes) else {
+            return Err(NameFault::NotUtf8(self));
+        };
+        if bytes.contains(&0) {
+            return Err(NameFault::Nul(self));
+        }
+        if self.is_broken_by_slash(bytes) {
+            return Err(NameFault::Slash(self));
+        }
+        Ok(text)
+    }
+}
+
+// The bytes as text, where they are UTF-8.
+fn text_of(bytes: &[u8]) -> Option<&str>
+    ensures { MatchOption result (is_utf8 bytes.now ≡ false) (λ text. (is_utf8 bytes.now ≡ true) × (text.now ≡ bytes.now)) }
+{
+    match str::from_utf8(bytes) {
+        Ok(text) => Some(text),
+        Err(_) => None,
+    }
+}
+
+/// Why there is no name of three parts: the first fault, by the order of the parts and, within a part, of the variants.
+#[derive(Clone, Copy, Debug, PartialEq, Eq, Error)]
+pub enum NameFault {
+    #[error("an empty part")]
+    Empty(Part),
+    /// With the number of its bytes. An account or a container has at most 256, an object 1,024.
+    #[error("a part that is too long")]
+    TooLong(Part, usize),
+    #[error("a part that is not UTF-8")]
+    NotUtf8(Part),
+    #[error("a part with a NUL")]
+    Nul(Part),
+    /// Only an object may hold slashes.
+    #[error("a part with a slash")]
+    Slash(Part),
+    #[error("out of memory")]
+    NoMemory,
+}
+
+/// The name of an object: an account, a container and an object, each a text without NUL and not empty, of at most 256,
+/// 256 and 1,024 bytes. Only the object may hold slashes.
+#[derive(Debug, Drop)]
+pub struct Name {
+    account: String,
+    container: String,
+    object: String,
+}
+
+impl Model for Name {
+    ghost use Rattle.std.specs.Prelude.{string_bytes};
+    ghost use Rattle.sw_types.specs.Name.{Parts};
+
+    ghost Value = { Parts };
+
+    ghost view = { λ name. record {
+        account = string_bytes name.account;
+        container = string_bytes name.container;
+        object = string_bytes name.object
+    } };
+}
+
+impl Name {
+    /// The name of these three parts, or the first fault. It answers `NoMemory` only for want of memory.
+    pub fn make(
+        alloc: Global,
+        account: &[u8],
+        container: &[u8],
+        object: &[u8],
+    ) -> Result<Name, NameFault>
+        ensures made { IfOk result (λ name. name_fault name ≡ None) }
+        ensures parts { IfOk result (λ name. name ≡ record { account = account.now; container = container.now; object = object.now }) }
+        ensures fault { IfErr result (λ fault. (fault ≡ NameFault.NoMemory)
+            ⊎ (name_fault (record { account = account.now; container = container.now; object = object.now }) ≡ Some fault)) }
+    {
+        let account = Part::Account.read(account)?;
+        let container = Part::Container.read(container)?;
+        let object = Part::Object.read(object)?;
+        Name::from_texts(alloc, account, container, object).map_err(|_| NameFault::NoMemory)
+    }
+
+    fn from_texts(
+        alloc: Global,
+        account: &str,
+        container: &str,
+        object: &str,
+    ) -> Result<Name, AllocError>
+        ensures { IfOk result (λ name. name ≡ record { account = account.now; container = container.now; object = object.now }) }
+    {
+        Ok(Name {
+            account: String::from_str(alloc, account)?,
+            container: String::from_str(alloc, container)?,
+            object: String::from_str(alloc, object)?,
+        })
+    }
+}
+
+impl Clone for Name {
+    ghost is_clone = { λ name copy. copy ≡ name };
+
+    fn clone(&self) -> Result<Name, AllocError> {
+        let account = self.account.clone()?;
+        let container = self.container.clone()?;
+        let object = self.object.clone()?;
+        Ok(Name {
+            account,
+            container,
+            object,
+        })
+    }
+}
+
+impl PartialEq for Name {
+    ghost eq = { name_eq };
+
+    ghost laws = { Prim.search (comparing, rules) };
+
+    fn eq(&self, other: &Name) -> bool {
+        self.account == other.account
+            && self.container == other.container
+            && self.object == other.object
+    }
+}

@@ -1,0 +1,5 @@
+-- Lists of numbers that are bytes.
+use Rattle.std.specs.Prelude.{ℕ, ◌<◌, List, slice_index}
+
+abbrev pub IsBytes : List ℕ → Type 0
+IsBytes xs = (place : ℕ) → slice_index xs place < 256
