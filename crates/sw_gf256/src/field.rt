@@ -30,7 +30,13 @@ pub fn inv(a: u8) -> u8
     ensures polynomial { IsProduct a result 1 }
     ensures value { result ≡ inverse a }
 {
-    1
+    // The power 255 of each element but 0 is 1, so its power 254 is its inverse. A turn goes from the power 2^n - 1 to
+    // the power 2^(n + 1) - 1.
+    let mut power = a;
+    for _ in 0..6u32 {
+        power = mul(mul(power, power), a);
+    }
+    mul(power, power)
 }
 
 /// Adds `c` times each element of `src` to the element of `dst` at its place.
@@ -38,7 +44,7 @@ pub fn mul_acc(dst: &mut [u8], src: &[u8], c: u8)
     requires { length dst.old ≡ length src.now }
     ensures { dst.new ≡ plus_multiple dst.old src.now c }
 {
-    for (d, s) in dst.iter_mut().zip(src) {
-        *d ^= mul(c, *s);
+    for (place, s) in src.iter().enumerate() {
+        dst[place] ^= mul(c, *s);
     }
 }

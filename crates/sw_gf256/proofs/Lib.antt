@@ -1,0 +1,5 @@
+pub mod Linear
+pub mod Products
+pub mod FieldLaws
+pub mod MulSteps
+pub mod Rows
