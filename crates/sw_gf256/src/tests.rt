@@ -1,0 +1,28 @@
+use super::*;
+
+// Inverses and parity bytes as ISA-L has them, for the coefficients 1/2 and 1/3.
+#[test]
+fn gives_known_parity(rt: HostRuntime) {
+    assert_eq!(rt; inv(2), 0x8e);
+    assert_eq!(rt; inv(3), 0xf4);
+    for (a, b, parity) in [
+        (0x61, 0x62, 0x6b),
+        (0x61, 0x63, 0x9f),
+        (0x62, 0x00, 0x31),
+        (0x00, 0x02, 0xf5),
+        (0x01, 0x03, 0x8f),
+        (0x04, 0x06, 0x00),
+        (0x05, 0x07, 0x7a),
+        (0x08, 0x00, 0x04),
+    ] {
+        assert_eq!(rt; mul(0x8e, a) ^ mul(0xf4, b), parity, "at {a} and {b}");
+    }
+}
+
+#[test]
+fn adds_multiples(rt: HostRuntime) {
+    let mut parity = [0; 4];
+    mul_acc(&mut parity, &[0x61, 0x62, 0x04, 0x05], 0x8e);
+    mul_acc(&mut parity, &[0x62, 0x00, 0x06, 0x07], 0xf4);
+    assert_eq!(rt; parity, [0x6b, 0x31, 0x00, 0x7a]);
+}
