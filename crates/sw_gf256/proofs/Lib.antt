@@ -1,5 +1,6 @@
 pub mod Linear
 pub mod Products
+pub mod Powers
 pub mod FieldLaws
 pub mod MulSteps
-pub mod Rows
+pub mod PlusMultiple

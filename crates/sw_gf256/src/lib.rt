@@ -7,3 +7,6 @@ mod laws;
 
 pub use crate::field::{inv, mul, mul_acc};
 pub use crate::laws::{field_law, product_law};
+
+#[cfg(test)]
+mod tests;

@@ -1,5 +1,5 @@
 use Rattle.std.proofs.Common.{get_or, set, bit_xor, sym, ap₂, ◌∙◌, arith, add-one}
-use Rattle.sw_gf256.proofs.Rows.{plus_multiple-nil, plus_multiple-more}
+use Rattle.sw_gf256.proofs.PlusMultiple.{plus_multiple-nil, plus_multiple-more}
 use Rattle.sw_gf256.proofs.field.mul_acc.Goals as goal
 
 pub loop-place-init : goal.loop-place-init

@@ -2,6 +2,7 @@
 use Rattle.std.proofs.Common.{◌≡◌, ℕ, zero, suc, ◌<◌, List, [], ◌∷◌, length, take, get_or, set, refl, ap, arith, bit_xor}
 use Rattle.sw_gf256.specs.Field.{product, plus_multiple}
 
+-- nothing is added
 pub plus_multiple-nil : (xs : List ℕ) (c : ℕ) → plus_multiple xs [] c ≡ xs
 unfolding plus_multiple
 plus_multiple-nil [] c = refl
