@@ -63,7 +63,7 @@ impl<W: Write> Sink for WriteSink<W> {
 
     fn write(&mut self, piece: &[u8]) -> Result<usize, WriteFailed> {
         match self.writer.write(piece) {
-            Ok(count) if 0 < count => Ok(count),
+            Ok(count) if count > 0 => Ok(count),
             _ => {
                 self.faults = self.faults.saturating_add(1);
                 Err(WriteFailed)

@@ -9,6 +9,8 @@ mod adapters;
 mod memory;
 mod sink;
 mod source;
+#[cfg(test)]
+mod tests;
 
 pub use crate::adapters::{ReadSource, WriteSink};
 pub use crate::memory::{MemSink, MemSource};
