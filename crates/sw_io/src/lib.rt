@@ -9,8 +9,10 @@ mod adapters;
 mod memory;
 mod sink;
 mod source;
+#[cfg(test)]
+mod tests;
 
 pub use crate::adapters::{ReadSource, WriteSink};
 pub use crate::memory::{MemSink, MemSource};
 pub use crate::sink::{Sink, WriteFailed, write_all};
-pub use crate::source::{ReadFailed, Source, read_up_to};
+pub use crate::source::{ReadError, ReadFailed, Source, read_up_to};

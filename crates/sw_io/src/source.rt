@@ -1,9 +1,11 @@
 //! Where bytes come from.
 
-ghost use Rattle.std.specs.Prelude.{◌≡◌, ℕ, ◌<◌, ◌≤◌, List, Option, IfOk, length};
-ghost use Rattle.std.specs.Io.KnownBytes.{ReadConsumes};
-ghost use Rattle.sw_words.specs.Counts.{FailsByCount};
+ghost use Rattle.std.specs.Prelude.{◌≡◌, ℕ, ◌+◌, ◌<◌, ◌≤◌, List, Option, IfOk, IfErr, OnOk, IsErrOf, length, vec_len};
+ghost use Rattle.std.specs.Io.{StartsWith, appended_bytes};
+ghost use Rattle.std.specs.Io.KnownBytes.{Consumes, IsAtEnd, ReadConsumes};
+ghost use Rattle.sw_words.specs.Counts.{FailsByCount, Rose};
 
+use std::alloc::Global;
 use thiserror::Error;
 
 /// The source failed, and its count of faults rose.
@@ -36,6 +38,9 @@ pub enum ReadError {
     NoMemory,
 }
 
+/// How many bytes a read may give at once.
+const ROOM: usize = 65536;
+
 /// Reads all that is left, or the first `limit` bytes of it where there are so many.
 pub fn read_up_to<S: Source>(
     alloc: Global,
@@ -49,18 +54,43 @@ pub fn read_up_to<S: Source>(
     ensures failed { IsErrOf result ReadError.Failed → Rose (S.faults source.old) (S.faults source.new) }
 {
     let mut bytes = Vec::new(alloc);
-    let mut room = vec![in alloc; 0u8; 65536].map_err(|_| ReadError::NoMemory)?;
+    let mut room = zeros(alloc, ROOM)?;
     while bytes.len() < limit {
         let want = (limit - bytes.len()).min(room.len());
-        let count = source
-            .read(&mut room[..want])
-            .map_err(|_| ReadError::Failed)?;
-        if count == 0 {
+        if append_piece(source, &mut room[..want], &mut bytes)? == 0 {
             break;
         }
-        bytes
-            .extend_from_slice(&room[..count])
-            .map_err(|_| ReadError::NoMemory)?;
     }
     Ok(bytes)
+}
+
+// Reads once, appends what came, and answers how many bytes that is: none only at the end of the input.
+fn append_piece<S: Source>(
+    source: &mut S,
+    room: &mut [u8],
+    bytes: &mut Vec<u8>,
+) -> Result<usize, ReadError>
+    requires { 0 < length room.old }
+    ensures appends { StartsWith bytes.new.items bytes.old.items }
+    ensures bytes { OnOk result (Consumes (S.remaining source.old) (S.remaining source.new)
+        (appended_bytes bytes.old.items bytes.new.items)) }
+    ensures count { IfOk result (λ n. vec_len bytes.new ≡ vec_len bytes.old + n) }
+    ensures within { IfOk result (λ n. n ≤ length room.new) }
+    ensures end { IfOk result (λ n. n ≡ 0 → IsAtEnd (S.remaining source.new)) }
+    ensures never_falls { S.faults source.old ≤ S.faults source.new }
+    ensures failed { IsErrOf result ReadError.Failed → Rose (S.faults source.old) (S.faults source.new) }
+{
+    let count = source.read(room).map_err(|_| ReadError::Failed)?;
+    bytes
+        .extend_from_slice(&room[..count])
+        .map_err(|_| ReadError::NoMemory)?;
+    Ok(count)
+}
+
+// So many bytes, to read into.
+fn zeros(alloc: Global, len: usize) -> Result<Vec<u8>, ReadError>
+    ensures len { IfOk result (λ zeros. vec_len zeros ≡ len) }
+    ensures cause { IfErr result (λ e. e ≡ ReadError.NoMemory) }
+{
+    vec![in alloc; 0u8; len].map_err(|_| ReadError::NoMemory)
 }

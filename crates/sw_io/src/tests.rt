@@ -1,0 +1,101 @@
+//! What comes and what goes, in memory and over std's readers and writers.
+
+use super::*;
+use std::io;
+use std::io::{ErrorKind, Read};
+use std::test::Fail;
+
+const TEXT: &[u8] = b"from here to there";
+
+// A reader that gives nothing but errors.
+#[derive(Drop)]
+struct Broken;
+
+impl Read for Broken {
+    fn read(&mut self, _room: &mut [u8]) -> io::Result<usize> {
+        Err(ErrorKind::ConnectionReset.into())
+    }
+}
+
+#[test]
+fn reads_up_to_the_limit(rt: HostRuntime) -> Result<(), Fail> {
+    let alloc = rt.alloc();
+    let cases = [
+        (0, ""),
+        (4, "from"),
+        (18, "from here to there"),
+        (19, "from here to there"),
+    ];
+    for (limit, want) in cases {
+        let mut source = MemSource::new(TEXT.to_vec(alloc)?);
+        let bytes = read_up_to(alloc, &mut source, limit)?;
+        assert_eq!(rt; bytes.as_slice(), want.as_bytes(), "up to {limit}");
+    }
+    Ok(())
+}
+
+#[test]
+fn reads_many_pieces(rt: HostRuntime) -> Result<(), Fail> {
+    let alloc = rt.alloc();
+    for (limit, count) in [(65_537, 65_537), (200_000, 150_000)] {
+        let mut source = ReadSource::new(io::repeat(7).take(150_000));
+        let bytes = read_up_to(alloc, &mut source, limit)?;
+        assert_eq!(rt; bytes.len(), count, "up to {limit}");
+    }
+    Ok(())
+}
+
+#[test]
+fn a_fuse_fails_the_read_after_its_calls(rt: HostRuntime) -> Result<(), Fail> {
+    let alloc = rt.alloc();
+    // The second read finds the end.
+    let cases = [
+        (0, Some(ReadError::Failed)),
+        (1, Some(ReadError::Failed)),
+        (2, None),
+    ];
+    for (calls, error) in cases {
+        let mut source = MemSource::new(TEXT.to_vec(alloc)?);
+        source.fuse(calls);
+        let result = read_up_to(alloc, &mut source, 100);
+        assert_eq!(rt; result.err(), error, "after {calls} calls");
+    }
+    Ok(())
+}
+
+#[test]
+fn a_sink_in_memory_keeps_what_is_written(rt: HostRuntime) -> Result<(), Fail> {
+    let mut sink = MemSink::new(rt.alloc());
+    write_all(&mut sink, b"one ")?;
+    write_all(&mut sink, b"two")?;
+    sink.fuse(0);
+    assert_eq!(rt; write_all(&mut sink, b"three"), Err(WriteFailed));
+    assert_eq!(rt; sink.bytes(), b"one two".as_slice());
+    Ok(())
+}
+
+#[test]
+fn adapters_pass_on_bytes(rt: HostRuntime) -> Result<(), Fail> {
+    let alloc = rt.alloc();
+    let mut source = ReadSource::new(TEXT);
+    let bytes = read_up_to(alloc, &mut source, 100)?;
+    let mut kept = Vec::new(alloc);
+    let mut sink = WriteSink::new(&mut kept);
+    write_all(&mut sink, &bytes)?;
+    assert_eq!(rt; kept.as_slice(), TEXT);
+    Ok(())
+}
+
+#[test]
+fn adapters_pass_on_failures(rt: HostRuntime) -> Result<(), Fail> {
+    let mut source = ReadSource::new(TEXT.chain(Broken));
+    let result = read_up_to(rt.alloc(), &mut source, 100);
+    assert_eq!(rt; result.err(), Some(ReadError::Failed));
+
+    // The writer takes four bytes, and then none.
+    let mut room = [0; 4];
+    let mut sink = WriteSink::new(room.as_mut_slice());
+    assert_eq!(rt; write_all(&mut sink, b"hello"), Err(WriteFailed));
+    assert_eq!(rt; room.as_slice(), b"hell".as_slice());
+    Ok(())
+}
