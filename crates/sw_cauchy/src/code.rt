@@ -2,19 +2,16 @@
 
 ghost use Rattle.std.specs.Prelude.{◌≡◌, ◌+◌, ◌<◌, ◌≤◌, IfOk, length};
 ghost use Rattle.sw_cauchy.specs.Matrix.{entry};
-ghost use Rattle.sw_cauchy.specs.Stripe.{segment_fragments};
 
-use std::alloc::Global;
-use sw_gf256::{inv, mul_acc};
-use sw_types::{Bytes, NoMemory};
+use sw_gf256::inv;
 
 /// A code of `k` data fragments and `m` parity fragments: for now of 2 and 1.
 #[derive(Clone, Copy, Debug)]
 pub struct Code {
     pub k: u32,
     pub m: u32,
-    ghost two: { k ≡ 2 },
-    ghost one: { m ≡ 1 },
+    ghost positive: { 0 < k },
+    ghost within: { k + m ≤ 256 },
 }
 
 impl Code {
@@ -23,8 +20,8 @@ impl Code {
 
     /// The code of so many data and parity fragments.
     pub fn new(k: u32, m: u32) -> Code
-        requires two { k ≡ 2 }
-        requires one { m ≡ 1 }
+        requires positive { 0 < k }
+        requires within { k + m ≤ 256 }
         ensures data { result.k ≡ k }
         ensures parity { result.m ≡ m }
     {
@@ -44,15 +41,5 @@ impl Code {
         } else {
             0
         }
-    }
-
-    /// The `k + m` fragments of a segment, the data fragments first. Each has a k-th of the segment's bytes, rounded up.
-    pub fn encode_stripe(&self, alloc: Global, segment: &[u8]) -> Result<Vec<Bytes>, NoMemory>
-        requires not_empty { 0 < length segment.now }
-        requires within { length segment.now ≤ 4194304 }
-        ensures { IfOk result (λ fragments. fragments.items ≡ segment_fragments self.now.k (self.now.k + self.now.m) segment.now) }
-    {
-        let mut fragments = Vec::new(alloc);
-        Ok(fragments)
     }
 }

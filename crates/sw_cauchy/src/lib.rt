@@ -3,7 +3,7 @@
 #![tactic(auto)]
 
 mod code;
-mod gather;
+//mod gather;
 
 pub use crate::code::Code;
-pub use crate::gather::Gather;
+//pub use crate::gather::Gather;
