@@ -3,6 +3,7 @@
 #![tactic(auto)]
 
 mod code;
+mod rows;
 //mod gather;
 
 pub use crate::code::Code;
