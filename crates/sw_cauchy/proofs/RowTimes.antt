@@ -6,8 +6,9 @@ use Rattle.std.proofs.lemmas.List.Edits.{length-between, get_or-between}
 use Rattle.std.proofs.lemmas.List.FromFn.{length-map-range_with_len, get_or-map-range_with_len}
 use Rattle.std.proofs.lemmas.Nat.{mul-add-lt}
 use Rattle.sw_gf256.specs.Field.{product, plus_multiple}
-use Rattle.sw_cauchy.specs.Matrix.{row_sum}
-use Rattle.sw_cauchy.specs.Rows.{row_times}
+use Rattle.sw_cauchy.specs.Matrix.{entry, row_sum}
+use Rattle.sw_cauchy.specs.Rows.{generator_row, row_times}
+use Rattle.sw_cauchy.specs.Stripe.{fragment}
 
 length-plus_multiple : (xs ys : List ℕ) (c : ℕ) → length (plus_multiple xs ys c) ≡ length xs
 unfolding plus_multiple
@@ -54,3 +55,33 @@ row_times-more count width row pieces within =
       get_or-plus_multiple sum piece (row count) i (omega arith) (omega arith)
       ∙ ap₂ bit_xor (get_or-row_times count width row pieces i below) (ap (product (row count)) (get_or-between pieces (count * width) ((count + 1) * width) i 0 (omega arith)))
       ∙ ap (λ n. row_sum n row (λ j. get_or pieces (j * width + i) 0)) (sym (add-one count)) ∙ sym (get_or-row_times (count + 1) width row pieces i below))
+
+-- ---- rows of the generator matrix
+
+-- a sum whose entries are the same in two rows and two columns
+pub row_sum-same : (count : ℕ) (f g x y : ℕ → ℕ) → ((j : ℕ) → j < count → f j ≡ g j) → ((j : ℕ) → j < count → x j ≡ y j) → row_sum count f x ≡ row_sum count g y
+unfolding row_sum
+row_sum-same zero f g x y rows columns = refl
+row_sum-same (suc n) f g x y rows columns =
+    ap₂ bit_xor (row_sum-same n f g x y (λ j h. rows j (omega arith)) (λ j h. columns j (omega arith)))
+    (ap₂ product (rows n (omega arith)) (columns n (omega arith)))
+
+pub length-generator_row : (k i : ℕ) → length (generator_row k i) ≡ k
+unfolding generator_row
+length-generator_row k i = length-map-range_with_len (entry k i) 0 k
+
+pub get_or-generator_row : (k i j : ℕ) → j < k → get_or (generator_row k i) j 0 ≡ entry k i j
+unfolding generator_row
+get_or-generator_row k i j h = get_or-map-range_with_len (entry k i) 0 k j j 0 h (omega arith)
+
+-- a row of the generator matrix gives its fragment
+pub fragment_from_row : (k width : ℕ) (row pieces : List ℕ) (i : ℕ) → row ≡ generator_row k i → row_times (length row) width (λ j. get_or row j 0) pieces ≡ fragment k width pieces i
+unfolding row_times fragment
+fragment_from_row k width row pieces i e =
+    let count : length row ≡ k = ap length e ∙ length-generator_row k i in
+    ext_get_or 0 _ _ (length-row_times (length row) width (λ j. get_or row j 0) pieces ∙ sym (length-row_times k width (entry k i) pieces))
+    (λ place h. let below : place < width = omega (arith, length-row_times (length row) width (λ j. get_or row j 0) pieces) in
+      get_or-row_times (length row) width (λ j. get_or row j 0) pieces place below
+      ∙ ap (λ n. row_sum n (λ j. get_or row j 0) (λ j. get_or pieces (j * width + place) 0)) count
+      ∙ row_sum-same k _ _ _ _ (λ j l. ap (λ r. get_or r j 0) e ∙ get_or-generator_row k i j l) (λ j l. refl)
+      ∙ sym (get_or-row_times k width (entry k i) pieces place below))
