@@ -1,11 +1,13 @@
 //! A code, and the fragments of a segment.
 
-ghost use Rattle.std.specs.Prelude.{◌≡◌, ◌+◌, ◌<◌, ◌≤◌, IfOk, length};
+ghost use Rattle.std.specs.Prelude.{◌≡◌, ◌+◌, ◌-◌, ◌*◌, ◌<◌, ◌≤◌, ◌++◌, IfOk, length, replicate};
 ghost use Rattle.sw_cauchy.specs.Matrix.{entry};
-ghost use Rattle.sw_cauchy.specs.Stripe.{segment_fragments};
+ghost use Rattle.sw_cauchy.specs.Rows.{generator_row};
+ghost use Rattle.sw_cauchy.specs.Stripe.{fragment, fragment_width, segment_fragments};
 
+use crate::rows::row_times;
 use std::alloc::Global;
-use sw_gf256::{inv, mul_acc};
+use sw_gf256::inv;
 use sw_types::{Bytes, NoMemory};
 
 /// A code of `k` data fragments and `m` parity fragments: for now of 2 and 1.
@@ -13,8 +15,8 @@ use sw_types::{Bytes, NoMemory};
 pub struct Code {
     pub k: u32,
     pub m: u32,
-    ghost two: { k ≡ 2 },
-    ghost one: { m ≡ 1 },
+    ghost positive: { 0 < k },
+    ghost within: { k + m ≤ 256 },
 }
 
 impl Code {
@@ -23,8 +25,8 @@ impl Code {
 
     /// The code of so many data and parity fragments.
     pub fn new(k: u32, m: u32) -> Code
-        requires two { k ≡ 2 }
-        requires one { m ≡ 1 }
+        requires positive { 0 < k }
+        requires within { k + m ≤ 256 }
         ensures data { result.k ≡ k }
         ensures parity { result.m ≡ m }
     {
@@ -46,13 +48,67 @@ impl Code {
         }
     }
 
+    // Writes row `i` of the generator matrix.
+    pub(crate) fn write_row(&self, row: &mut [u8], i: u32)
+        requires index { i < self.now.k + self.now.m }
+        requires width { length row.old ≡ self.now.k }
+        ensures { row.new ≡ generator_row self.now.k i }
+    {
+        for j in 0..self.k {
+            row[j as usize] = self.coefficient(i, j);
+        }
+    }
+
     /// The `k + m` fragments of a segment, the data fragments first. Each has a k-th of the segment's bytes, rounded up.
     pub fn encode_stripe(&self, alloc: Global, segment: &[u8]) -> Result<Vec<Bytes>, NoMemory>
         requires not_empty { 0 < length segment.now }
         requires within { length segment.now ≤ 4194304 }
         ensures { IfOk result (λ fragments. fragments.items ≡ segment_fragments self.now.k (self.now.k + self.now.m) segment.now) }
     {
-        let mut fragments = Vec::new(alloc);
+        let width = self.fragment_width(segment.len());
+        let pieces = pad(alloc, segment, self.k as usize * width)?;
+        let count = self.k + self.m;
+        let mut fragments = Vec::with_capacity(alloc, count as usize)?;
+        for i in 0..count {
+            let fragment = self.fragment(alloc, &pieces, width, i)?;
+            fragments.push(fragment)?;
+        }
         Ok(fragments)
     }
+
+    // A k-th of so many bytes, rounded up.
+    fn fragment_width(&self, bytes: usize) -> usize
+        ensures { result ≡ fragment_width self.now.k bytes }
+    {
+        bytes.div_ceil(self.k as usize)
+    }
+
+    // Fragment `i` of k pieces.
+    fn fragment(
+        &self,
+        alloc: Global,
+        pieces: &[u8],
+        width: usize,
+        i: u32,
+    ) -> Result<Bytes, NoMemory>
+        requires index { i < self.now.k + self.now.m }
+        requires pieces { length pieces.now ≡ self.now.k * width }
+        ensures { IfOk result (λ bytes. bytes ≡ fragment self.now.k width pieces.now i) }
+    {
+        let mut room = [0; 256];
+        let row = &mut room[..self.k as usize];
+        self.write_row(row, i);
+        row_times(alloc, row, pieces, width)
+    }
+}
+
+// The bytes, and zeros up to a length.
+fn pad(alloc: Global, bytes: &[u8], padded_length: usize) -> Result<Vec<u8>, NoMemory>
+    requires { length bytes.now ≤ padded_length }
+    ensures { IfOk result (λ padded. padded.items ≡ bytes.now ++ replicate (padded_length - length bytes.now) 0) }
+{
+    let mut padded = Vec::with_capacity(alloc, padded_length)?;
+    padded.extend_from_slice(bytes)?;
+    padded.resize(padded_length, 0)?;
+    Ok(padded)
 }

@@ -3,7 +3,8 @@
 #![tactic(auto)]
 
 mod code;
-mod gather;
+mod rows;
+//mod gather;
 
 pub use crate::code::Code;
-pub use crate::gather::Gather;
+//pub use crate::gather::Gather;

@@ -1,0 +1,87 @@
+-- A row times pieces, byte by byte and piece by piece.
+use Rattle.std.proofs.Common.{◌≡◌, ℕ, zero, suc, ◌+◌, ◌-◌, ◌*◌, ◌<◌, ◌≤◌, List, [], ◌∷◌, length, get_or, map, replicate, refl, sym, ap, ap₂, ◌∙◌, add-one, arith, bit_xor}
+use Rattle.std.specs.List.{range_with_len, between}
+use Rattle.std.proofs.lemmas.List.{ext_get_or, get_or-replicate, length-replicate}
+use Rattle.std.proofs.lemmas.List.Edits.{length-between, get_or-between}
+use Rattle.std.proofs.lemmas.List.FromFn.{length-map-range_with_len, get_or-map-range_with_len}
+use Rattle.std.proofs.lemmas.Nat.{mul-add-lt}
+use Rattle.sw_gf256.specs.Field.{product, plus_multiple}
+use Rattle.sw_cauchy.specs.Matrix.{entry, row_sum}
+use Rattle.sw_cauchy.specs.Rows.{generator_row, row_times}
+use Rattle.sw_cauchy.specs.Stripe.{fragment}
+
+length-plus_multiple : (xs ys : List ℕ) (c : ℕ) → length (plus_multiple xs ys c) ≡ length xs
+unfolding plus_multiple
+length-plus_multiple [] ys c = refl
+length-plus_multiple (x ∷ xs) [] c = refl
+length-plus_multiple (x ∷ xs) (y ∷ ys) c = ap suc (length-plus_multiple xs ys c)
+
+get_or-plus_multiple : (xs ys : List ℕ) (c i : ℕ) → i < length xs → length ys ≡ length xs → get_or (plus_multiple xs ys c) i 0 ≡ bit_xor (get_or xs i 0) (product c (get_or ys i 0))
+unfolding plus_multiple
+get_or-plus_multiple [] ys c i h e = absurd (omega arith)
+get_or-plus_multiple (x ∷ xs) [] c i h e = absurd (omega arith)
+get_or-plus_multiple (x ∷ xs) (y ∷ ys) c zero h e = refl
+get_or-plus_multiple (x ∷ xs) (y ∷ ys) c (suc i) h e = get_or-plus_multiple xs ys c i (omega arith) (omega arith)
+
+pub length-row_times : (count width : ℕ) (row : ℕ → ℕ) (pieces : List ℕ) → length (row_times count width row pieces) ≡ width
+unfolding row_times
+length-row_times count width row pieces = length-map-range_with_len _ 0 width
+
+pub get_or-row_times : (count width : ℕ) (row : ℕ → ℕ) (pieces : List ℕ) (place : ℕ) → place < width
+    → get_or (row_times count width row pieces) place 0 ≡ row_sum count row (λ j. get_or pieces (j * width + place) 0)
+unfolding row_times
+get_or-row_times count width row pieces place h =
+    get_or-map-range_with_len (λ place. row_sum count row (λ j. get_or pieces (j * width + place) 0)) 0 width place place 0 h (omega arith)
+
+-- no piece
+pub row_times-none : (width : ℕ) (row : ℕ → ℕ) (pieces : List ℕ) → replicate width 0 ≡ row_times 0 width row pieces
+unfolding row_sum
+row_times-none width row pieces =
+    ext_get_or 0 _ _ (length-replicate {A = ℕ} width 0 ∙ sym (length-row_times 0 width row pieces))
+    (λ i h. let within : i < width = omega (arith, length-replicate {A = ℕ} width 0) in
+      get_or-replicate width i 0 0 within ∙ sym (get_or-row_times 0 width row pieces i within))
+
+-- one more piece
+pub row_times-more : (count width : ℕ) (row : ℕ → ℕ) (pieces : List ℕ) → count * width + width ≤ length pieces
+    → plus_multiple (row_times count width row pieces) (between (count * width) ((count + 1) * width) pieces) (row count) ≡ row_times (count + 1) width row pieces
+unfolding row_sum
+row_times-more count width row pieces within =
+    let piece = between (count * width) ((count + 1) * width) pieces in
+    let sum = row_times count width row pieces in
+    let in_piece : length piece ≡ width = length-between pieces (count * width) ((count + 1) * width) (omega arith) ∙ omega arith in
+    let in_sum : length sum ≡ width = length-row_times count width row pieces in
+    ext_get_or 0 _ _ (length-plus_multiple sum piece (row count) ∙ in_sum ∙ sym (length-row_times (count + 1) width row pieces))
+    (λ i h. let below : i < width = omega (arith, length-plus_multiple sum piece (row count)) in
+      get_or-plus_multiple sum piece (row count) i (omega arith) (omega arith)
+      ∙ ap₂ bit_xor (get_or-row_times count width row pieces i below) (ap (product (row count)) (get_or-between pieces (count * width) ((count + 1) * width) i 0 (omega arith)))
+      ∙ ap (λ n. row_sum n row (λ j. get_or pieces (j * width + i) 0)) (sym (add-one count)) ∙ sym (get_or-row_times (count + 1) width row pieces i below))
+
+-- ---- rows of the generator matrix
+
+-- a sum whose entries are the same in two rows and two columns
+pub row_sum-same : (count : ℕ) (f g x y : ℕ → ℕ) → ((j : ℕ) → j < count → f j ≡ g j) → ((j : ℕ) → j < count → x j ≡ y j) → row_sum count f x ≡ row_sum count g y
+unfolding row_sum
+row_sum-same zero f g x y rows columns = refl
+row_sum-same (suc n) f g x y rows columns =
+    ap₂ bit_xor (row_sum-same n f g x y (λ j h. rows j (omega arith)) (λ j h. columns j (omega arith)))
+    (ap₂ product (rows n (omega arith)) (columns n (omega arith)))
+
+pub length-generator_row : (k i : ℕ) → length (generator_row k i) ≡ k
+unfolding generator_row
+length-generator_row k i = length-map-range_with_len (entry k i) 0 k
+
+pub get_or-generator_row : (k i j : ℕ) → j < k → get_or (generator_row k i) j 0 ≡ entry k i j
+unfolding generator_row
+get_or-generator_row k i j h = get_or-map-range_with_len (entry k i) 0 k j j 0 h (omega arith)
+
+-- a row of the generator matrix gives its fragment
+pub fragment_from_row : (k width : ℕ) (row pieces : List ℕ) (i : ℕ) → row ≡ generator_row k i → row_times (length row) width (λ j. get_or row j 0) pieces ≡ fragment k width pieces i
+unfolding row_times fragment
+fragment_from_row k width row pieces i e =
+    let count : length row ≡ k = ap length e ∙ length-generator_row k i in
+    ext_get_or 0 _ _ (length-row_times (length row) width (λ j. get_or row j 0) pieces ∙ sym (length-row_times k width (entry k i) pieces))
+    (λ place h. let below : place < width = omega (arith, length-row_times (length row) width (λ j. get_or row j 0) pieces) in
+      get_or-row_times (length row) width (λ j. get_or row j 0) pieces place below
+      ∙ ap (λ n. row_sum n (λ j. get_or row j 0) (λ j. get_or pieces (j * width + place) 0)) count
+      ∙ row_sum-same k _ _ _ _ (λ j l. ap (λ r. get_or r j 0) e ∙ get_or-generator_row k i j l) (λ j l. refl)
+      ∙ sym (get_or-row_times k width (entry k i) pieces place below))
