@@ -1,6 +1,6 @@
 //! Bytes as hex text: `-` for none, and else two digits a byte.
 
-ghost use Rattle.std.specs.Prelude.{◌≡◌, Some, None, IfOk, IsErrOf};
+ghost use Rattle.std.specs.Prelude.{◌≡◌, ◌*◌, ◌<◌, ◌≤◌, ℕ, List, Some, None, IfOk, IsErrOf, length, slice_index};
 ghost use Rattle.sw_types.specs.Hex.{bytes_of_hex, hex_text};
 
 use crate::{Bytes, NoMemory};
@@ -46,3 +46,9 @@ pub fn print_hex(alloc: Global, bytes: &[u8]) -> Result<Bytes, NoMemory>
     let text = hex::encode(alloc, bytes)?;
     Ok(Bytes::from(text.into_bytes()))
 }
+
+/// The text of some bytes spells these bytes, and a text spells at most one byte for two of its own.
+pub fn hex_law()
+    ensures read_again { (bytes : List ℕ) → ((place : ℕ) → slice_index bytes place < 256) → bytes_of_hex (hex_text bytes) ≡ Some bytes }
+    ensures short { (text bytes : List ℕ) → bytes_of_hex text ≡ Some bytes → 2 * length bytes ≤ length text }
+{}
