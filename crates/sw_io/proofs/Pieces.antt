@@ -1,9 +1,9 @@
 -- Bytes that are read or written piece by piece.
-use Rattle.std.proofs.Common.{◌≡◌, ℕ, List, [], ◌++◌, Option, length, take, drop, refl, sym, ap, ◌∙◌, subst, append_assoc, append-nil, take-append-drop}
+use Rattle.std.proofs.Common.{◌≡◌, ℕ, List, ◌++◌, Option, length, take, drop, sym, ap, ◌∙◌, subst, append_assoc, take-append-drop}
 use Rattle.std.specs.Io.{StartsWith, appended_bytes}
 use Rattle.std.specs.Io.KnownBytes.{Appends, Consumes, Keeps}
-use Rattle.std.proofs.KnownBytes.{Appends-nil, Appends-trans, Appends-kept, Consumes-trans, starts_with_rest}
-use lib.Seq.{take-append_seam}
+use Rattle.std.proofs.KnownBytes.{Appends-trans, Appends-kept, Consumes-trans, starts_with_rest}
+use Rattle.std.proofs.Math.Seq.{take-append_seam}
 use Rattle.sw_io.specs.Whole.{AppendsFront}
 
 -- of all the bytes a front was written, and the rest is left
@@ -12,18 +12,12 @@ pub record WrotePart (old new : Option (List ℕ)) (all rest : List ℕ) : Type 
   pub split : all ≡ done ++ rest
   pub grew : Appends old new done
 
-pub WrotePart-none : (a : Option (List ℕ)) (all : List ℕ) → WrotePart a a all all
-WrotePart-none a all = record { done = []; split = refl; grew = Appends-nil a }
-
 pub WrotePart-more : (a b c : Option (List ℕ)) (all rest : List ℕ) (n : ℕ) → WrotePart a b all rest → Appends b c (take n rest) → WrotePart a c all (drop n rest)
 WrotePart-more a b c all rest n part wrote = record {
   done = part.done ++ take n rest;
   split = part.split ∙ ap (λ l. part.done ++ l) (sym (take-append-drop n rest)) ∙ sym (append_assoc part.done (take n rest) (drop n rest));
   grew = Appends-trans a b c part.done (take n rest) part.grew wrote;
 }
-
-pub WrotePart-whole : (a b : Option (List ℕ)) (all : List ℕ) → WrotePart a b all [] → Appends a b all
-WrotePart-whole a b all part = subst (Appends a b) (sym (part.split ∙ append-nil part.done)) part.grew
 
 pub WrotePart-front : (a b c : Option (List ℕ)) (all rest : List ℕ) → WrotePart a b all rest → Keeps b c → AppendsFront a c all
 WrotePart-front a b c all rest part kept =

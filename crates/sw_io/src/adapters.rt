@@ -5,7 +5,7 @@ ghost use Rattle.std.specs.Prelude.{◌≡◌};
 use crate::{ReadFailed, Sink, Source, WriteFailed};
 use std::io::{Read, Write};
 
-/// A source over a reader. Each error of the reader is a fault.
+/// A source over a reader. Each error of the reader is a fault, also one after which a second try would go well.
 #[derive(Debug, Drop)]
 pub struct ReadSource<R> {
     reader: R,

@@ -26,7 +26,7 @@ impl Fuse {
         }
     }
 
-    // Whether the call may go on. Where it may not, that is a fault.
+    // Takes one call off, and tells whether it may go on. Where it may not, that is a fault.
     fn passes(&mut self) -> bool
         ensures passes { IsTrue result ↔ (self.old.calls_left ≢ Some 0) }
         ensures calls { self.new.calls_left ≡ one_fewer self.old.calls_left }
@@ -55,7 +55,7 @@ impl Fuse {
     }
 }
 
-/// A source that gives the bytes that it was made with.
+/// A source that gives the bytes that it was made with. It fails only by its fuse.
 #[derive(Debug, Drop)]
 pub struct MemSource {
     all: Vec<u8>,
@@ -77,7 +77,9 @@ impl Model for MemSource {
 impl MemSource {
     /// A source that has these bytes to give.
     pub fn new(bytes: Vec<u8>) -> Self
-        ensures { result ≡ record { bytes = bytes.items; calls_left = None; faults = 0 } }
+        ensures left { result.bytes ≡ bytes.items }
+        ensures no_fuse { result.calls_left ≡ None }
+        ensures no_fault { result.faults ≡ 0 }
     {
         MemSource {
             all: bytes,
@@ -86,7 +88,7 @@ impl MemSource {
         }
     }
 
-    /// Lets `calls` further reads go on. Each one after them fails.
+    /// Lets `calls` further reads go on. Each one after them fails: it gives nothing, and is counted as a fault.
     pub fn fuse(&mut self, calls: u64)
         ensures { self.new ≡ record self.old { calls_left = Some calls } }
     {
@@ -120,7 +122,7 @@ impl Source for MemSource {
     }
 }
 
-/// A sink that keeps what is written to it.
+/// A sink that keeps what is written to it. A write takes the whole piece, or fails by the fuse or for want of memory.
 #[derive(Debug, Drop)]
 pub struct MemSink {
     kept: Vec<u8>,
@@ -138,7 +140,9 @@ impl Model for MemSink {
 impl MemSink {
     /// A sink to which nothing was written.
     pub fn new(alloc: Global) -> Self
-        ensures { result ≡ record { bytes = []; calls_left = None; faults = 0 } }
+        ensures empty { result.bytes ≡ [] }
+        ensures no_fuse { result.calls_left ≡ None }
+        ensures no_fault { result.faults ≡ 0 }
     {
         MemSink {
             kept: Vec::new(alloc),
@@ -146,7 +150,7 @@ impl MemSink {
         }
     }
 
-    /// Lets `calls` further writes go on. Each one after them fails.
+    /// Lets `calls` further writes go on. Each one after them fails: it keeps nothing, and is counted as a fault.
     pub fn fuse(&mut self, calls: u64)
         ensures { self.new ≡ record self.old { calls_left = Some calls } }
     {

@@ -21,7 +21,8 @@ pub trait Source {
     /// How often reading has failed.
     ghost faults: { Self → ℕ };
 
-    /// Reads into the front of `room`, and answers how many bytes came. None come only at the end of the input.
+    /// Reads into the front of `room`, and answers how many bytes came. None come only at the end of the input, and
+    /// none are lost at `Err`.
     fn read(&mut self, room: &mut [u8]) -> Result<usize, ReadFailed>
         requires { 0 < length room.old }
         ensures count { IfOk result (λ n. n ≤ length room.new) }
@@ -32,16 +33,18 @@ pub trait Source {
 /// Why a source was not read to where it should be.
 #[derive(Clone, Copy, Debug, PartialEq, Eq, Error)]
 pub enum ReadError {
+    /// A read failed, and the count of faults rose.
     #[error("reading failed")]
     Failed,
+    /// There was no memory for what was read.
     #[error("out of memory")]
     NoMemory,
 }
 
-/// How many bytes a read may give at once.
-const ROOM: usize = 65536;
+// How many bytes are read at once.
+const ROOM: usize = 64 * 1024;
 
-/// Reads all that is left, or the first `limit` bytes of it where there are so many.
+/// Reads all that is left, or the first `limit` bytes of it where there are so many. At `Err` what was read is lost.
 pub fn read_up_to<S: Source>(
     alloc: Global,
     source: &mut S,
@@ -87,7 +90,7 @@ fn append_piece<S: Source>(
     Ok(count)
 }
 
-// So many bytes, to read into.
+// So many bytes, to read into. At a literal length a proof would write them all out.
 fn zeros(alloc: Global, len: usize) -> Result<Vec<u8>, ReadError>
     ensures len { IfOk result (λ zeros. vec_len zeros ≡ len) }
     ensures cause { IfErr result (λ e. e ≡ ReadError.NoMemory) }
