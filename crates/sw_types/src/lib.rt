@@ -12,5 +12,5 @@ mod stamp;
 pub use crate::bytes::Bytes;
 pub use crate::hexadecimal::{HexFault, hex_law, print_hex, read_hex};
 pub use crate::memory::NoMemory;
-pub use crate::name::{Name, NameFault, Part};
+pub use crate::name::{Name, NameFault, Part, name_law};
 pub use crate::stamp::Stamp;

@@ -5,7 +5,7 @@ ghost use Rattle.std.proofs.Common.{rules};
 ghost use Rattle.std.specs.Cmp.Rules.{comparing};
 ghost use Rattle.std.specs.List.{list_any};
 ghost use Rattle.std.specs.Str.{is_utf8};
-ghost use Rattle.sw_types.specs.Name.{most_bytes, may_hold_slash, name_eq, part_fault, name_fault};
+ghost use Rattle.sw_types.specs.Name.{Parts, most_bytes, may_hold_slash, name_eq, part_fault, name_fault};
 
 use std::alloc::{AllocError, Global};
 use std::marker::Model;
@@ -176,3 +176,9 @@ impl PartialEq for Name {
             && self.object == other.object
     }
 }
+
+/// Two names are equal exactly where their parts are.
+pub fn name_law()
+    ensures same { (a b : Parts) → name_eq a b ≡ true → a ≡ b }
+    ensures equal { (a : Parts) → name_eq a a ≡ true }
+{}

@@ -1,10 +1,11 @@
 //! The events of a script, and the reader of a line.
 
-ghost use Rattle.std.specs.Prelude.{◌≡◌, ◌==◌, Some, None, Ok, Err, IfOk, IsErrOf, [], ◌∷◌, map};
-ghost use Rattle.std.specs.List.{before_first, after_first, position_or_len};
+ghost use Rattle.std.specs.Prelude.{◌≡◌, Some, None, Ok, Err, IfOk, IsErrOf, [], ◌∷◌, map};
 ghost use Rattle.sw_types.specs.Hex.{bytes_of_hex};
-ghost use Rattle.swift_main.specs.Script.{event_of, event_by, name_of, words_of};
+ghost use Rattle.swift_main.specs.Outcome.{fault_number};
+ghost use Rattle.swift_main.specs.Script.{event_of, event_by, name_of, parts_of, words_of};
 
+use crate::cut::cut_at;
 use std::alloc::{AllocError, Global};
 use sw_types::{Bytes, HexFault, Name, NameFault, read_hex};
 use thiserror::Error;
@@ -27,6 +28,18 @@ pub enum LineFault {
     Form,
     #[error("out of memory")]
     NoMemory,
+}
+
+impl LineFault {
+    /// The number that is printed. Want of memory has none, and answers 0.
+    pub fn number(self) -> u8
+        ensures { result ≡ fault_number self }
+    {
+        match self {
+            LineFault::Form => 1,
+            LineFault::NoMemory => 0,
+        }
+    }
 }
 
 impl Event {
@@ -116,8 +129,7 @@ fn read_name(alloc: Global, word: &[u8]) -> Result<Name, LineFault>
     if word.contains(&b'%') {
         return Err(LineFault::Form);
     }
-    let (account, rest) = cut_at_slash(word);
-    let (container, object) = cut_at_slash(rest);
+    let (account, container, object) = parts(word);
     match Name::make(alloc, account, container, object) {
         Ok(name) => Ok(name),
         Err(NameFault::NoMemory) => Err(LineFault::NoMemory),
@@ -125,24 +137,13 @@ fn read_name(alloc: Global, word: &[u8]) -> Result<Name, LineFault>
     }
 }
 
-// What stands before the first slash and what after it: all, and nothing, where there is none.
-fn cut_at_slash(text: &[u8]) -> (&[u8], &[u8])
-    ensures before { result.0.now ≡ before_first (λ byte. byte == 47) text.now }
-    ensures after { result.1.now ≡ after_first (λ byte. byte == 47) text.now }
+// The account, the container and the object that a word spells.
+fn parts(word: &[u8]) -> (&[u8], &[u8], &[u8])
+    ensures account { result.0.now ≡ (parts_of word.now).account }
+    ensures container { result.1.now ≡ (parts_of word.now).container }
+    ensures object { result.2.now ≡ (parts_of word.now).object }
 {
-    let place = slash_place(text);
-    if place < text.len() {
-        (&text[..place], &text[place + 1..])
-    } else {
-        (text, &[])
-    }
-}
-
-// The place of the first slash, or the text's length where there is none.
-fn slash_place(text: &[u8]) -> usize
-    ensures { result ≡ position_or_len (λ byte. byte == 47) text.now }
-{
-    text.iter()
-        .position(|byte| *byte == b'/')
-        .unwrap_or(text.len())
+    let (account, rest) = cut_at(b'/', word);
+    let (container, object) = cut_at(b'/', rest.unwrap_or(&[]));
+    (account, container, object.unwrap_or(&[]))
 }

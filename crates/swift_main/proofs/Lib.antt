@@ -1,0 +1,4 @@
+mod Cuts
+mod Founds
+mod Runs
+mod Segments

@@ -1,0 +1,78 @@
+//! How the program ends.
+
+ghost use Rattle.std.specs.Prelude.{◌≡◌, ◌++◌, OnOk, OnErr};
+ghost use Rattle.swift_main.specs.Outcome.{fault_number, last_line, status_code};
+
+use crate::event::LineFault;
+use std::alloc::Global;
+use sw_types::{Bytes, NoMemory};
+
+/// How the program ends, with its exit status and its last line.
+#[derive(Clone, Copy, Debug, PartialEq, Eq)]
+pub enum Status {
+    /// 0: the input was read to its end, and each line was done.
+    Done,
+    /// 1, and the usage: the words are not a command.
+    Usage,
+    /// 2, and `ring: 0`: the input is neither empty nor does it begin with a line feed.
+    Ring,
+    /// 3, and `line L: F`: this line of the script has this fault.
+    Line { line: u64, fault: LineFault },
+    /// 4: memory was refused.
+    NoMemory,
+    /// 5: the input failed.
+    ReadFault,
+    /// 6: the output failed.
+    WriteFault,
+    /// 10, and `input too long`: the input has more than 67,108,864 bytes.
+    TooLong,
+}
+
+impl Status {
+    /// The exit status.
+    pub fn code(self) -> u8
+        ensures { result ≡ status_code self }
+    {
+        match self {
+            Status::Done => 0,
+            Status::Usage => 1,
+            Status::Ring => 2,
+            Status::Line { .. } => 3,
+            Status::NoMemory => 4,
+            Status::ReadFault => 5,
+            Status::WriteFault => 6,
+            Status::TooLong => 10,
+        }
+    }
+
+    /// Adds the last line to the text, where there is one. After an `Err` the text is as before.
+    pub fn print(self, alloc: Global, text: &mut Bytes) -> Result<(), NoMemory>
+        ensures ok { OnOk result (text.new ≡ text.old ++ last_line self) }
+        ensures err { OnErr result (text.new ≡ text.old) }
+    {
+        match self {
+            Status::Usage => {
+                text.extend_from_slice(b"usage: play | serve PORT WORKERS | load N\n")
+            }
+            Status::Ring => text.extend_from_slice(b"ring: 0\n"),
+            Status::Line { line, fault } => print_fault(alloc, line, fault, text),
+            Status::TooLong => text.extend_from_slice(b"input too long\n"),
+            Status::Done | Status::NoMemory | Status::ReadFault | Status::WriteFault => Ok(()),
+        }
+    }
+}
+
+// Adds the line of a faulty line to the text.
+fn print_fault(
+    alloc: Global,
+    line: u64,
+    fault: LineFault,
+    text: &mut Bytes,
+) -> Result<(), NoMemory>
+    ensures ok { OnOk result (text.new ≡ text.old ++ last_line (Status.Line line fault)) }
+    ensures err { OnErr result (text.new ≡ text.old) }
+{
+    let number = fault.number();
+    let last = format!(in alloc; "line {line}: {number}\n")?;
+    text.extend_from_slice(last.as_bytes())
+}
