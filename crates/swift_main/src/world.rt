@@ -15,7 +15,7 @@ use crate::event::Event;
 use crate::node::{Node, Stored};
 use std::alloc::Global;
 use std::marker::Model;
-use sw_cauchy::{Code, Gather};
+use sw_cauchy::Code;
 use sw_types::{Bytes, Name, NoMemory, Stamp};
 
 /// How many nodes there are: one for each fragment.
@@ -59,41 +59,6 @@ impl World {
             operations: 0,
             puts: 0,
         })
-    }
-
-    /// Runs an event as the next operation, and answers how it ended. After an `Err` the world is as before.
-    pub fn run(&mut self, alloc: Global, event: &Event) -> Result<End, NoMemory>
-        requires few { self.old.operations < 2 ^ 41 }
-        requires one_segment { IsOneSegment event.now }
-        ensures end { (past : List Event) → StandsFor self.old past → IfOk result (λ end. end ≡ end_of past event.now) }
-        ensures ok { (past : List Event) → StandsFor self.old past → OnOk result (StandsFor self.new (past ++ event.now ∷ [])) }
-        ensures counted { OnOk result (self.new.operations ≡ self.old.operations + 1) }
-        ensures err { OnErr result (self.new ≡ self.old) }
-    {
-        match event {
-            Event::Put { name, body } => self.put(alloc, name, body.as_slice()),
-            Event::Get { name } => {
-                let end = self.get(alloc, name)?;
-                self.operations += 1;
-                Ok(end)
-            }
-        }
-    }
-
-    // How a get of this name ends.
-    fn get(&self, alloc: Global, name: &Name) -> Result<End, NoMemory>
-        ensures { (past : List Event) → StandsFor self.now past → IfOk result (λ end. end ≡ end_of past (event.Get name.now)) }
-    {
-        match (self.nodes[0].newest(name), self.nodes[1].newest(name)) {
-            (Some(first), Some(second)) => {
-                let body = decode(alloc, first, second)?;
-                Ok(End::Found {
-                    stamp: first.stamp,
-                    body,
-                })
-            }
-            _ => Ok(End::Absent),
-        }
     }
 
     // Stores the fragments of an object, durable, and counts the put. After an `Err` the world is as before.
@@ -153,11 +118,9 @@ fn entries_of(
     requires { length fragments.items < 2 ^ 32 }
     ensures { IfOk result (λ entries. entries.items ≡ entries_from 0 name.now stamp size fragments.items) }
 {
-    let mut rest = fragments;
     let mut entries = Vec::new(alloc);
     let mut index = 0;
-    while !rest.is_empty() {
-        let fragment = rest.remove(0);
+    'each: for fragment in fragments {
         let name = name.clone()?;
         entries.push(Stored {
             name,
@@ -177,7 +140,7 @@ fn make_room(nodes: &mut [Node]) -> Result<(), NoMemory>
     ensures same { map (λ node. node.entries.items) nodes.new ≡ map (λ node. node.entries.items) nodes.old }
     ensures room { OnOk result (All (λ node. vec_len node.entries < vec_capacity node.entries) nodes.new) }
 {
-    for node in nodes.iter_mut() {
+    'each: for node in nodes.iter_mut() {
         node.entries.reserve(1)?;
     }
     Ok(())
@@ -189,24 +152,9 @@ fn keep(nodes: &mut [Node], entries: Vec<Stored>)
     requires room { All (λ node. vec_len node.entries < vec_capacity node.entries) nodes.old }
     ensures { map (λ node. node.entries.items) nodes.new ≡ kept (map (λ node. node.entries.items) nodes.old) entries.items }
 {
-    let mut rest = entries;
-    for node in nodes.iter_mut() {
-        let entry = rest.remove(0);
+    let mut rest = entries.into_iter();
+    'each: for node in nodes.iter_mut() {
+        let entry = rest.next().unwrap();
         node.entries.push(entry).unwrap();
     }
-}
-
-// The body of an object, from its fragments of index 0 and 1.
-fn decode(alloc: Global, first: &Stored, second: &Stored) -> Result<Bytes, NoMemory>
-    requires size { second.now.length ≡ first.now.length }
-    requires first { length first.now.fragment ≡ fragment_width 2 first.now.length }
-    requires second { length second.now.fragment ≡ fragment_width 2 first.now.length }
-    ensures { (body : List ℕ) → IsBytes body → length body ≡ first.now.length →
-        first.now.fragment ≡ segment_fragment 2 body 0 → second.now.fragment ≡ segment_fragment 2 body 1 →
-        IfOk result (λ decoded. decoded ≡ body) }
-{
-    let mut gather = Gather::new(alloc, Code::new(2, 1), first.fragment.len())?;
-    gather.add(0, first.fragment.as_slice());
-    gather.add(1, second.fragment.as_slice());
-    gather.finish(alloc, first.length)
 }
