@@ -15,7 +15,7 @@ use crate::event::Event;
 use crate::node::{Node, Stored};
 use std::alloc::Global;
 use std::marker::Model;
-use sw_cauchy::Code;
+use sw_cauchy::{Code, Gather};
 use sw_types::{Bytes, Name, NoMemory, Stamp};
 
 /// How many nodes there are: one for each fragment.
@@ -61,6 +61,42 @@ impl World {
         })
     }
 
+    /// Runs an event as the next operation, and answers how it ended. After an `Err` the world is as before.
+    pub fn run(&mut self, alloc: Global, event: &Event) -> Result<End, NoMemory>
+        requires few { self.old.operations < 2 ^ 41 }
+        requires one_segment { IsOneSegment event.now }
+        ensures end { (past : List Event) → StandsFor self.old past → IfOk result (λ end. end ≡ end_of past event.now) }
+        ensures ok { (past : List Event) → StandsFor self.old past → OnOk result (StandsFor self.new (past ++ event.now ∷ [])) }
+        ensures counted { OnOk result (self.new.operations ≡ self.old.operations + 1) }
+        ensures err { OnErr result (self.new ≡ self.old) }
+    {
+        match event {
+            Event::Put { name, body } => self.put(alloc, name, body.as_slice()),
+            Event::Get { name } => {
+                let end = self.get(alloc, name)?;
+                self.operations += 1;
+                Ok(end)
+            }
+        }
+    }
+
+    // How a get of this name ends.
+    fn get(&self, alloc: Global, name: &Name) -> Result<End, NoMemory>
+        ensures { (past : List Event) → StandsFor self.now past → IfOk result (λ end. end ≡ end_of past (event.Get name.now)) }
+    {
+        let Some(first) = self.nodes[0].newest(name) else {
+            return Ok(End::Absent);
+        };
+        let Some(second) = self.nodes[1].newest(name) else {
+            return Ok(End::Absent);
+        };
+        let body = decode(alloc, first, second)?;
+        Ok(End::Found {
+            stamp: first.stamp,
+            body,
+        })
+    }
+
     // Stores the fragments of an object, durable, and counts the put. After an `Err` the world is as before.
     fn put(&mut self, alloc: Global, name: &Name, body: &[u8]) -> Result<End, NoMemory>
         requires few { self.old.operations < 2 ^ 41 }
@@ -72,6 +108,7 @@ impl World {
             puts = self.old.puts + 1
         }) }
         ensures err { OnErr result (self.new ≡ self.old) }
+        ensures bytes { IsBytes body.now }
     {
         let stamp = stamp_of(self.puts);
         let fragments = fragments_of(alloc, body)?;
@@ -157,4 +194,19 @@ fn keep(nodes: &mut [Node], entries: Vec<Stored>)
         let entry = rest.next().unwrap();
         node.entries.push(entry).unwrap();
     }
+}
+
+// The body of an object, from its fragments of index 0 and 1.
+fn decode(alloc: Global, first: &Stored, second: &Stored) -> Result<Bytes, NoMemory>
+    requires size { second.now.length ≡ first.now.length }
+    requires first { length first.now.fragment ≡ fragment_width 2 first.now.length }
+    requires second { length second.now.fragment ≡ fragment_width 2 first.now.length }
+    ensures { (body : List ℕ) → IsBytes body → length body ≡ first.now.length →
+        first.now.fragment ≡ segment_fragment 2 body 0 → second.now.fragment ≡ segment_fragment 2 body 1 →
+        IfOk result (λ decoded. decoded ≡ body) }
+{
+    let mut gather = Gather::new(alloc, Code::new(2, 1), first.fragment.len())?;
+    gather.add(0, first.fragment.as_slice());
+    gather.add(1, second.fragment.as_slice());
+    gather.finish(alloc, first.length)
 }
