@@ -9,6 +9,7 @@ use Rattle.sw_gf256.specs.Field.{product, plus_multiple}
 use Rattle.sw_cauchy.specs.Matrix.{entry, row_sum}
 use Rattle.sw_cauchy.specs.Rows.{generator_row, row_times}
 use Rattle.sw_cauchy.specs.Stripe.{fragment}
+use Rattle.sw_cauchy.proofs.RowSums.{row_sum-same}
 
 length-plus_multiple : (xs ys : List ℕ) (c : ℕ) → length (plus_multiple xs ys c) ≡ length xs
 unfolding plus_multiple
@@ -57,14 +58,6 @@ row_times-more count width row pieces within =
       ∙ ap (λ n. row_sum n row (λ j. get_or pieces (j * width + i) 0)) (sym (add-one count)) ∙ sym (get_or-row_times (count + 1) width row pieces i below))
 
 -- ---- rows of the generator matrix
-
--- a sum whose entries are the same in two rows and two columns
-pub row_sum-same : (count : ℕ) (f g x y : ℕ → ℕ) → ((j : ℕ) → j < count → f j ≡ g j) → ((j : ℕ) → j < count → x j ≡ y j) → row_sum count f x ≡ row_sum count g y
-unfolding row_sum
-row_sum-same zero f g x y rows columns = refl
-row_sum-same (suc n) f g x y rows columns =
-    ap₂ bit_xor (row_sum-same n f g x y (λ j h. rows j (omega arith)) (λ j h. columns j (omega arith)))
-    (ap₂ product (rows n (omega arith)) (columns n (omega arith)))
 
 pub length-generator_row : (k i : ℕ) → length (generator_row k i) ≡ k
 unfolding generator_row
