@@ -3,8 +3,9 @@
 #![tactic(auto)]
 
 mod code;
+mod decode;
+mod gather;
 mod rows;
-//mod gather;
 
 pub use crate::code::Code;
-//pub use crate::gather::Gather;
+pub use crate::gather::Gather;
