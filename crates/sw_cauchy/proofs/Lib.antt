@@ -1,2 +1,4 @@
+mod Parts
 mod RowSums
 mod RowTimes
+mod Shares

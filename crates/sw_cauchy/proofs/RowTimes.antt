@@ -34,6 +34,17 @@ unfolding row_times
 get_or-row_times count width row pieces place h =
     get_or-map-range_with_len (λ place. row_sum count row (λ j. get_or pieces (j * width + place) 0)) 0 width place place 0 h (omega arith)
 
+-- one row, at the entries that count
+pub row_times-same : (count n width w : ℕ) (f g : ℕ → ℕ) (pieces : List ℕ) → count ≡ n → width ≡ w → ((j : ℕ) → j < n → f j ≡ g j)
+    → row_times count width f pieces ≡ row_times n w g pieces
+row_times-same count n width w f g pieces counts widths rows =
+    ext_get_or 0 _ _ (length-row_times count width f pieces ∙ widths ∙ sym (length-row_times n w g pieces))
+    (λ place h. let below : place < width = omega (arith, length-row_times count width f pieces) in
+      get_or-row_times count width f pieces place below
+      ∙ ap (λ m. row_sum m f (λ j. get_or pieces (j * width + place) 0)) counts
+      ∙ row_sum-same n f g _ _ rows (λ j l. ap (λ v. get_or pieces (j * v + place) 0) widths)
+      ∙ sym (get_or-row_times n w g pieces place (omega arith)))
+
 -- no piece
 pub row_times-none : (width : ℕ) (row : ℕ → ℕ) (pieces : List ℕ) → replicate width 0 ≡ row_times 0 width row pieces
 unfolding row_sum
@@ -71,10 +82,5 @@ get_or-generator_row k i j h = get_or-map-range_with_len (entry k i) 0 k j j 0 h
 pub fragment_from_row : (k width : ℕ) (row pieces : List ℕ) (i : ℕ) → row ≡ generator_row k i → row_times (length row) width (λ j. get_or row j 0) pieces ≡ fragment k width pieces i
 unfolding row_times fragment
 fragment_from_row k width row pieces i e =
-    let count : length row ≡ k = ap length e ∙ length-generator_row k i in
-    ext_get_or 0 _ _ (length-row_times (length row) width (λ j. get_or row j 0) pieces ∙ sym (length-row_times k width (entry k i) pieces))
-    (λ place h. let below : place < width = omega (arith, length-row_times (length row) width (λ j. get_or row j 0) pieces) in
-      get_or-row_times (length row) width (λ j. get_or row j 0) pieces place below
-      ∙ ap (λ n. row_sum n (λ j. get_or row j 0) (λ j. get_or pieces (j * width + place) 0)) count
-      ∙ row_sum-same k _ _ _ _ (λ j l. ap (λ r. get_or r j 0) e ∙ get_or-generator_row k i j l) (λ j l. refl)
-      ∙ sym (get_or-row_times k width (entry k i) pieces place below))
+    row_times-same (length row) k width width (λ j. get_or row j 0) (entry k i) pieces (ap length e ∙ length-generator_row k i) refl
+    (λ j l. ap (λ r. get_or r j 0) e ∙ get_or-generator_row k i j l)

@@ -64,17 +64,17 @@ impl Gather {
     }
 
     /// The segment of so many bytes whose fragments were gathered.
-    pub fn finish(&self, alloc: Global, length: usize) -> Result<Bytes, NoMemory>
+    pub fn finish(&self, alloc: Global, segment_length: usize) -> Result<Bytes, NoMemory>
         requires enough { length self.now.shares ≡ self.now.k }
-        requires fits { fragment_width self.now.k length ≡ self.now.width }
+        requires fits { fragment_width self.now.k segment_length ≡ self.now.width }
         ensures { (pieces : List ℕ) → IsBytes pieces → length pieces ≡ self.now.k * self.now.width →
             AreFragments self.now.k self.now.width pieces self.now.shares →
-            IfOk result (λ segment. segment ≡ take length pieces) }
+            IfOk result (λ segment. segment ≡ take segment_length pieces) }
     {
         let matrix = decode_matrix(alloc, self.code, &self.indices)?;
         let k = self.code.k as usize;
         let mut pieces = matrix_times(alloc, k, &matrix, &self.bytes, self.width)?;
-        pieces.truncate(length);
+        pieces.truncate(segment_length);
         Ok(Bytes::from(pieces))
     }
 
