@@ -1,3 +1,4 @@
+mod Decoding
 mod Parts
 mod RowSums
 mod RowTimes

@@ -1,13 +1,12 @@
 -- Sums of products over the field: exchange of sums, and what an inverse matrix undoes.
-use Rattle.std.proofs.Common.{◌≡◌, ℕ, zero, suc, ◌+◌, ◌*◌, ◌<◌, ◌≤◌, false, cond, ◌==◌, if◌then◌else◌, List, get_or, refl, sym, ap, ap₂, ◌∙◌, inl, inr, arith, bit_xor, eq-eqb}
+use Rattle.std.proofs.Common.{◌≡◌, ℕ, zero, suc, ◌<◌, ◌≤◌, false, cond, ◌==◌, if◌then◌else◌, refl, sym, ap, ap₂, ◌∙◌, inl, inr, arith, bit_xor, eq-eqb}
 use Rattle.std.proofs.lemmas.Bool.{cases_eq}
-use lib.Bits.{xor_zero_l, xor_zero_r}
+use lib.Bits.{xor_zero_l, xor_zero_r, xor_lt}
 use Rattle.sw_gf256.specs.Field.{product}
 use Rattle.sw_gf256.proofs.Linear.{xor_swap}
 use Rattle.sw_gf256.proofs.Products.{product-left}
-use Rattle.sw_gf256.proofs.FieldLaws.{product_assoc, product_xor, product_zero, zero_product, one_product}
+use Rattle.sw_gf256.proofs.FieldLaws.{product_lt, product_assoc, product_xor, product_zero, zero_product, one_product}
 use Rattle.sw_cauchy.specs.Matrix.{row_sum}
-use Rattle.sw_cauchy.specs.Linear.{matrix_entry, IsInverse}
 
 -- a sum whose entries are the same in two rows and two columns
 pub row_sum-same : (count : ℕ) (f g x y : ℕ → ℕ) → ((j : ℕ) → j < count → f j ≡ g j) → ((j : ℕ) → j < count → x j ≡ y j) → row_sum count f x ≡ row_sum count g y
@@ -16,6 +15,11 @@ row_sum-same zero f g x y rows columns = refl
 row_sum-same (suc n) f g x y rows columns =
     ap₂ bit_xor (row_sum-same n f g x y (λ j h. rows j (omega arith)) (λ j h. columns j (omega arith)))
     (ap₂ product (rows n (omega arith)) (columns n (omega arith)))
+
+row_sum-lt : (count : ℕ) (f x : ℕ → ℕ) → ((j : ℕ) → f j < 256) → ((j : ℕ) → x j < 256) → row_sum count f x < 256
+unfolding row_sum
+row_sum-lt zero f x fs xs = omega arith
+row_sum-lt (suc n) f x fs xs = xor_lt 8 _ _ (row_sum-lt n f x fs xs) (product_lt (f n) (x n) (fs n) (xs n))
 
 row_sum-zeros : (count : ℕ) (f : ℕ → ℕ) → row_sum count f (λ j. 0) ≡ 0
 unfolding row_sum
@@ -72,11 +76,23 @@ row_sum-unit (suc n) i x h b =
           ap₂ bit_xor (row_sum-unit n i x (omega arith) b) last ∙ xor_zero_r (x i)
     ]
 
+-- the rows of one matrix times the columns of another are unit rows
+pub record Undoes (k : ℕ) (inverse matrix : ℕ → ℕ → ℕ) : Type 0 where
+  pub units : (i j : ℕ) → i < k → j < k → row_sum k (inverse i) (λ t. matrix t j) ≡ (if i == j then 1 else 0)
+  pub inverse_bytes : (i t : ℕ) → inverse i t < 256
+  pub matrix_bytes : (t j : ℕ) → matrix t j < 256
+
 -- an inverse matrix undoes a matrix
-pub undone_by_inverse : (k : ℕ) (inverse matrix : List ℕ) (x : ℕ → ℕ) (i : ℕ) → IsInverse k inverse matrix → i < k
-    → ((place : ℕ) → get_or inverse place 0 < 256) → ((place : ℕ) → get_or matrix place 0 < 256) → ((j : ℕ) → x j < 256)
-    → row_sum k (matrix_entry k inverse i) (λ t. row_sum k (matrix_entry k matrix t) x) ≡ x i
-undone_by_inverse k inverse matrix x i undoes h is ms xs =
-    sym (row_sum-assoc k k (matrix_entry k inverse i) (matrix_entry k matrix) x (λ j. is (i * k + j)) (λ j t. ms (j * k + t)) xs)
-    ∙ row_sum-same k _ _ x x (λ j l. undoes i j h l) (λ j l. refl)
+pub undone : (k : ℕ) (inverse matrix : ℕ → ℕ → ℕ) (x : ℕ → ℕ) → Undoes k inverse matrix → ((j : ℕ) → x j < 256) → (i : ℕ) → i < k
+    → row_sum k (inverse i) (λ t. row_sum k (matrix t) x) ≡ x i
+undone k inverse matrix x undoes xs i h =
+    sym (row_sum-assoc k k (inverse i) matrix x (undoes.inverse_bytes i) undoes.matrix_bytes xs)
+    ∙ row_sum-same k _ _ x x (λ j l. undoes.units i j h l) (λ j l. refl)
     ∙ row_sum-unit k i x h (xs i)
+
+-- so a row times the inverse, times what the matrix makes of a column, is the row times the column
+pub undone_in_row : (k : ℕ) (row : ℕ → ℕ) (inverse matrix : ℕ → ℕ → ℕ) (x : ℕ → ℕ) → Undoes k inverse matrix → ((j : ℕ) → row j < 256) → ((j : ℕ) → x j < 256)
+    → row_sum k (λ t. row_sum k row (λ j. inverse j t)) (λ t. row_sum k (matrix t) x) ≡ row_sum k row x
+undone_in_row k row inverse matrix x undoes rs xs =
+    row_sum-assoc k k row inverse (λ t. row_sum k (matrix t) x) rs undoes.inverse_bytes (λ t. row_sum-lt k (matrix t) x (undoes.matrix_bytes t) xs)
+    ∙ row_sum-same k row row _ x (λ j l. refl) (undone k inverse matrix x undoes xs)

@@ -78,6 +78,15 @@ pub get_or-generator_row : (k i j : ℕ) → j < k → get_or (generator_row k i
 unfolding generator_row
 get_or-generator_row k i j h = get_or-map-range_with_len (entry k i) 0 k j j 0 h (omega arith)
 
+pub length-fragment : (k width : ℕ) (pieces : List ℕ) (i : ℕ) → length (fragment k width pieces i) ≡ width
+unfolding row_times fragment
+length-fragment k width pieces i = length-row_times k width (entry k i) pieces
+
+pub get_or-fragment : (k width : ℕ) (pieces : List ℕ) (i place : ℕ) → place < width
+    → get_or (fragment k width pieces i) place 0 ≡ row_sum k (entry k i) (λ j. get_or pieces (j * width + place) 0)
+unfolding row_times fragment
+get_or-fragment k width pieces i place h = get_or-row_times k width (entry k i) pieces place h
+
 -- a row of the generator matrix gives its fragment
 pub fragment_from_row : (k width : ℕ) (row pieces : List ℕ) (i : ℕ) → row ≡ generator_row k i → row_times (length row) width (λ j. get_or row j 0) pieces ≡ fragment k width pieces i
 unfolding row_times fragment

@@ -2,6 +2,7 @@
 
 ghost use Rattle.std.specs.Prelude.{◌≡◌, ◌≢◌, ◌+◌, ◌*◌, ◌<◌, IfOk, length};
 ghost use Rattle.std.specs.List.{All, AllPairs};
+ghost use Rattle.sw_words.specs.Bytes.{IsBytes};
 ghost use Rattle.sw_cauchy.specs.Linear.{IsInverse};
 ghost use Rattle.sw_cauchy.specs.Rows.{generator_rows};
 
@@ -20,6 +21,7 @@ pub(crate) fn decode_matrix(
     requires below { All (λ index. index < code.k + code.m) indices.now }
     requires distinct { AllPairs (λ s t. s ≢ t) indices.now }
     ensures length { IfOk result (λ matrix. length matrix.items ≡ code.k * code.k) }
+    ensures bytes { IfOk result (λ matrix. IsBytes matrix.items) }
     ensures inverse { IfOk result (λ matrix. IsInverse code.k matrix.items (generator_rows code.k indices.now)) }
 {
     let rows = generator_rows(alloc, code, indices)?;
@@ -44,6 +46,7 @@ fn generator_rows(alloc: Global, code: Code, indices: &[u32]) -> Result<Vec<u8>,
 fn invert(alloc: Global, rows: &[u8]) -> Result<Vec<u8>, NoMemory>
     requires four { length rows.now ≡ 4 }
     ensures length { IfOk result (λ matrix. length matrix.items ≡ 4) }
+    ensures bytes { IfOk result (λ matrix. IsBytes matrix.items) }
     ensures inverse { IfOk result (λ matrix. IsInverse 2 matrix.items rows.now) }
 {
     let scale = inv(mul(rows[0], rows[3]) ^ mul(rows[1], rows[2]));
