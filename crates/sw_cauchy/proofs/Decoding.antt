@@ -89,12 +89,12 @@ pieces_decoded k width matrix indices bytes pieces decodes ps whole are =
 
 -- a fragment is decoded
 pub fragment_decoded : (k width : ℕ) (matrix indices bytes pieces row : List ℕ) (i : ℕ) → Decodes k matrix indices → IsBytes pieces
-    → AreFragments k width pieces (shares_of width indices bytes) → row ≡ row_times k k (entry k i) matrix → row_times k width (λ t. get_or row t 0) bytes ≡ fragment k width pieces i
+    → AreFragments k width pieces (shares_of width indices bytes) → row ≡ fragment k k matrix i → row_times k width (λ t. get_or row t 0) bytes ≡ fragment k width pieces i
 fragment_decoded k width matrix indices bytes pieces row i decodes ps are made =
     ext_get_or 0 _ _ (length-row_times k width (λ t. get_or row t 0) bytes ∙ sym (length-fragment k width pieces i))
     (λ place h. let within : place < width = omega (arith, length-row_times k width (λ t. get_or row t 0) bytes) in
       get_or-row_times k width (λ t. get_or row t 0) bytes place within
-      ∙ row_sum-same k _ _ _ _ (λ t m. ap (λ r. get_or r t 0) made ∙ get_or-row_times k k (entry k i) matrix t m)
+      ∙ row_sum-same k _ _ _ _ (λ t m. ap (λ r. get_or r t 0) made ∙ get_or-fragment k k matrix i t m)
         (λ t m. share_sum k width indices bytes pieces are t place (omega (arith, decodes.count)) within)
       ∙ undone_in_row k (entry k i) (matrix_entry k matrix) (λ t. entry k (get_or indices t 0)) (λ j. get_or pieces (j * width + place) 0)
         (decodes-undoes k matrix indices decodes) (entry-lt k i) (λ j. ps (j * width + place))

@@ -45,6 +45,13 @@ pub count_of_gathered : (inside : Inside) (gather : Gathered) → gathered insid
 count_of_gathered inside gather view =
     sym (ap (λ (v : Gathered). length v.shares) view) ∙ length-shares_of inside.width inside.indices.items inside.bytes.items
 
+-- with k shares there are k indices, and k pieces of bytes
+pub full_count : (inside : Inside) (gather : Gathered) → gathered inside ≡ gather → length gather.shares ≡ gather.k → length inside.indices.items ≡ inside.code.k
+full_count inside gather view enough = omega (arith, count_of_gathered inside gather view, ap (λ (v : Gathered). v.k) view)
+
+pub full_bytes : (inside : Inside) (gather : Gathered) → gathered inside ≡ gather → IsGather inside → length gather.shares ≡ gather.k → length inside.bytes.items ≡ inside.code.k * inside.width
+full_bytes inside gather view kept enough = kept.filled ∙ ap (λ n. n * inside.width) (full_count inside gather view enough)
+
 -- ---- a share is added
 
 -- a share may be added to what was gathered

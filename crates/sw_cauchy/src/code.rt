@@ -48,7 +48,7 @@ impl Code {
         }
     }
 
-    // Writes row `i` of the generator matrix.
+    /// Writes row `i` of the generator matrix.
     pub(crate) fn write_row(&self, row: &mut [u8], i: u32)
         requires index { i < self.now.k + self.now.m }
         requires width { length row.old ≡ self.now.k }
@@ -83,8 +83,8 @@ impl Code {
         bytes.div_ceil(self.k as usize)
     }
 
-    // Fragment `i` of k pieces.
-    fn fragment(
+    /// Fragment `i` of k pieces.
+    pub(crate) fn fragment(
         &self,
         alloc: Global,
         pieces: &[u8],

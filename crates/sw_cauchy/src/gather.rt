@@ -88,10 +88,8 @@ impl Gather {
     {
         let matrix = decode_matrix(alloc, self.code, &self.indices)?;
         let k = self.code.k as usize;
-        let mut room = [0; 256];
-        let row = &mut room[..k];
-        self.code.write_row(row, index);
-        let row = row_times(alloc, row, &matrix, k)?;
+        // The row that makes the fragment from the shares is that fragment of the matrix's rows.
+        let row = self.code.fragment(alloc, &matrix, k, index)?;
         row_times(alloc, row.as_slice(), &self.bytes, self.width)
     }
 }
