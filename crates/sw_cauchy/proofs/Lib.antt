@@ -3,3 +3,4 @@ mod Parts
 mod RowSums
 mod RowTimes
 mod Shares
+mod TwoByTwo

@@ -1,6 +1,6 @@
 -- Sums of products over the field: exchange of sums, and what an inverse matrix undoes.
 use Rattle.std.proofs.Common.{◌≡◌, ℕ, zero, suc, ◌<◌, ◌≤◌, false, cond, ◌==◌, if◌then◌else◌, refl, sym, ap, ap₂, ◌∙◌, inl, inr, arith, bit_xor, eq-eqb}
-use Rattle.std.proofs.lemmas.Bool.{cases_eq}
+use Rattle.std.proofs.lemmas.Bool.{cases_eq, ne_eqb}
 use lib.Bits.{xor_zero_l, xor_zero_r, xor_lt}
 use Rattle.sw_gf256.specs.Field.{product}
 use Rattle.sw_gf256.proofs.Linear.{xor_swap}
@@ -57,7 +57,7 @@ row_sum-unit_none : (count i : ℕ) (x : ℕ → ℕ) → count ≤ i → row_su
 unfolding row_sum
 row_sum-unit_none zero i x h = refl
 row_sum-unit_none (suc n) i x h =
-    let other : (i == n) ≡ false = search arith in
+    let other : (i == n) ≡ false = ne_eqb i n (λ e. omega arith) in
     ap₂ bit_xor (row_sum-unit_none n i x (omega arith)) (ap (λ t. product (cond t 1 0) (x n)) other ∙ zero_product (x n))
 
 -- a unit row picks an entry
@@ -68,10 +68,10 @@ row_sum-unit (suc n) i x h b =
     elim (cases_eq i n) [
       | inl here ↦
           let last : product (if i == n then 1 else 0) (x n) ≡ x n =
-            ap (λ t. product (cond t 1 0) (x n)) (eq-eqb i n here) ∙ ap (product 1) (ap x (sym here)) ∙ one_product (x i) b ∙ ap x here in
+          ap (λ t. product (cond t 1 0) (x n)) (eq-eqb i n here) ∙ ap (product 1) (ap x (sym here)) ∙ one_product (x i) b ∙ ap x here in
           ap₂ bit_xor (row_sum-unit_none n i x (omega arith)) last ∙ xor_zero_l (x n) ∙ ap x (sym here)
       | inr earlier ↦
-          let other : (i == n) ≡ false = search arith in
+          let other : (i == n) ≡ false = ne_eqb i n earlier in
           let last : product (if i == n then 1 else 0) (x n) ≡ 0 = ap (λ t. product (cond t 1 0) (x n)) other ∙ zero_product (x n) in
           ap₂ bit_xor (row_sum-unit n i x (omega arith) b) last ∙ xor_zero_r (x i)
     ]

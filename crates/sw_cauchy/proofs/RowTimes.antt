@@ -1,10 +1,9 @@
 -- A row times pieces, byte by byte and piece by piece.
-use Rattle.std.proofs.Common.{◌≡◌, ℕ, zero, suc, ◌+◌, ◌-◌, ◌*◌, ◌<◌, ◌≤◌, List, [], ◌∷◌, length, get_or, map, replicate, refl, sym, ap, ap₂, ◌∙◌, add-one, arith, bit_xor}
-use Rattle.std.specs.List.{range_with_len, between}
+use Rattle.std.proofs.Common.{◌≡◌, ℕ, zero, suc, ◌+◌, ◌*◌, ◌<◌, ◌≤◌, List, [], ◌∷◌, length, get_or, replicate, refl, sym, ap, ap₂, ◌∙◌, add-one, arith, bit_xor}
+use Rattle.std.specs.List.{between}
 use Rattle.std.proofs.lemmas.List.{ext_get_or, get_or-replicate, length-replicate}
 use Rattle.std.proofs.lemmas.List.Edits.{length-between, get_or-between}
 use Rattle.std.proofs.lemmas.List.FromFn.{length-map-range_with_len, get_or-map-range_with_len}
-use Rattle.std.proofs.lemmas.Nat.{mul-add-lt}
 use Rattle.sw_gf256.specs.Field.{product, plus_multiple}
 use Rattle.sw_cauchy.specs.Matrix.{entry, row_sum}
 use Rattle.sw_cauchy.specs.Rows.{generator_row, row_times}
@@ -40,10 +39,10 @@ pub row_times-same : (count n width w : ℕ) (f g : ℕ → ℕ) (pieces : List 
 row_times-same count n width w f g pieces counts widths rows =
     ext_get_or 0 _ _ (length-row_times count width f pieces ∙ widths ∙ sym (length-row_times n w g pieces))
     (λ place h. let below : place < width = omega (arith, length-row_times count width f pieces) in
-      get_or-row_times count width f pieces place below
-      ∙ ap (λ m. row_sum m f (λ j. get_or pieces (j * width + place) 0)) counts
-      ∙ row_sum-same n f g _ _ rows (λ j l. ap (λ v. get_or pieces (j * v + place) 0) widths)
-      ∙ sym (get_or-row_times n w g pieces place (omega arith)))
+    get_or-row_times count width f pieces place below
+    ∙ ap (λ m. row_sum m f (λ j. get_or pieces (j * width + place) 0)) counts
+    ∙ row_sum-same n f g _ _ rows (λ j l. ap (λ v. get_or pieces (j * v + place) 0) widths)
+    ∙ sym (get_or-row_times n w g pieces place (omega arith)))
 
 -- no piece
 pub row_times-none : (width : ℕ) (row : ℕ → ℕ) (pieces : List ℕ) → replicate width 0 ≡ row_times 0 width row pieces
@@ -51,7 +50,7 @@ unfolding row_sum
 row_times-none width row pieces =
     ext_get_or 0 _ _ (length-replicate {A = ℕ} width 0 ∙ sym (length-row_times 0 width row pieces))
     (λ i h. let within : i < width = omega (arith, length-replicate {A = ℕ} width 0) in
-      get_or-replicate width i 0 0 within ∙ sym (get_or-row_times 0 width row pieces i within))
+    get_or-replicate width i 0 0 within ∙ sym (get_or-row_times 0 width row pieces i within))
 
 -- one more piece
 pub row_times-more : (count width : ℕ) (row : ℕ → ℕ) (pieces : List ℕ) → count * width + width ≤ length pieces
@@ -64,9 +63,9 @@ row_times-more count width row pieces within =
     let in_sum : length sum ≡ width = length-row_times count width row pieces in
     ext_get_or 0 _ _ (length-plus_multiple sum piece (row count) ∙ in_sum ∙ sym (length-row_times (count + 1) width row pieces))
     (λ i h. let below : i < width = omega (arith, length-plus_multiple sum piece (row count)) in
-      get_or-plus_multiple sum piece (row count) i (omega arith) (omega arith)
-      ∙ ap₂ bit_xor (get_or-row_times count width row pieces i below) (ap (product (row count)) (get_or-between pieces (count * width) ((count + 1) * width) i 0 (omega arith)))
-      ∙ ap (λ n. row_sum n row (λ j. get_or pieces (j * width + i) 0)) (sym (add-one count)) ∙ sym (get_or-row_times (count + 1) width row pieces i below))
+    get_or-plus_multiple sum piece (row count) i (omega arith) (omega arith)
+    ∙ ap₂ bit_xor (get_or-row_times count width row pieces i below) (ap (product (row count)) (get_or-between pieces (count * width) ((count + 1) * width) i 0 (omega arith)))
+    ∙ ap (λ n. row_sum n row (λ j. get_or pieces (j * width + i) 0)) (sym (add-one count)) ∙ sym (get_or-row_times (count + 1) width row pieces i below))
 
 -- ---- rows of the generator matrix
 

@@ -1,7 +1,7 @@
 -- Shares, and the indices and bytes that they are kept as.
-use Rattle.std.proofs.Common.{◌≡◌, ℕ, zero, suc, ◌+◌, ◌*◌, ◌<◌, ◌≤◌, List, [], ◌∷◌, ◌++◌, length, take, drop, get_or, refl, sym, ap, ap₂, subst, ◌∙◌, arith, ◌≢◌, vec_capacity, length-append}
+use Rattle.std.proofs.Common.{◌≡◌, ℕ, zero, suc, ◌+◌, ◌*◌, ◌<◌, ◌≤◌, List, [], ◌∷◌, ◌++◌, length, drop, get_or, refl, sym, ap, ap₂, ◌∙◌, arith, ◌≢◌, vec_capacity, length-append}
 use Rattle.std.specs.List.{All}
-use Rattle.std.proofs.lemmas.List.{take_all, drop_all, take-append-le, drop-append-le, length-drop, get_or-take, get_or-drop}
+use Rattle.std.proofs.lemmas.List.{take_all, take-append-le, drop-append-le, length-drop, get_or-take, get_or-drop}
 use Rattle.std.proofs.lemmas.List.Elements.{All-push}
 use Rattle.std.proofs.lemmas.List.Quantifiers.{all_pairs_push}
 use Rattle.std.proofs.lemmas.Nat.{row_fits}
@@ -75,7 +75,7 @@ may_add before gather index fragment view kept below new width room =
       width = width ∙ sym (ap (λ (v : Gathered). v.width) view);
       below = omega (arith, ap (λ (v : Gathered). v.m) view);
       new = λ t d h e.
-        new t none (omega arith) (ap (λ (v : Gathered). (get_or v.shares t none).index) (sym view) ∙ share_index before.width before.indices.items before.bytes.items t none d h ∙ e);
+          new t none (omega arith) (ap (λ (v : Gathered). (get_or v.shares t none).index) (sym view) ∙ share_index before.width before.indices.items before.bytes.items t none d h ∙ e);
     }
 
 -- there is room for its bytes
@@ -99,8 +99,8 @@ IsGather-added before after index fragment may added =
     record {
       count = omega (arith, longer, may.room);
       filled =
-        ap length added.bytes ∙ length-append before.bytes.items fragment
-        ∙ omega (arith, may.kept.filled, may.width) ∙ sym (ap₂ (λ n w. n * w) longer added.width);
+          ap length added.bytes ∙ length-append before.bytes.items fragment
+          ∙ omega (arith, may.kept.filled, may.width) ∙ sym (ap₂ (λ n w. n * w) longer added.width);
       below = rw (added.code, added.indices) (All-push (λ i. i < before.code.k + before.code.m) before.indices.items index may.kept.below may.below);
       distinct = rw added.indices (all_pairs_push (λ s t. s ≢ t) before.indices.items index may.kept.distinct may.new);
       index_room = omega (arith, may.kept.index_room);

@@ -1,7 +1,7 @@
 use Rattle.std.proofs.Common.{[], ◌∷◌, refl, arith}
 use Rattle.std.proofs.lemmas.Slice.{pushed}
 use Rattle.sw_cauchy.specs.declared.gather.Gather.TheInside.{Inside}
-use Rattle.sw_cauchy.proofs.Shares.{may_add, room_for_bytes, IsAdded, IsGather-added, gathered-added}
+use Rattle.sw_cauchy.proofs.Shares.{may_add, room_for_bytes, IsGather-added, gathered-added}
 use Rattle.sw_cauchy.proofs.gather.Gather.add.Goals as goal
 
 pub unwrap-requires : goal.unwrap-requires

@@ -25,14 +25,14 @@ returns c pieces ps whole are =
     let g = c.self.inside in
     let matrix = c.in_ok-matrix.matrix.items in
     let inverse : IsInverse g.code.k matrix (generator_rows g.code.k g.indices.items) =
-      subst (λ (xs : List ℕ). IsInverse g.code.k matrix (generator_rows g.code.k xs)) c.deref.ensures.value c.in_ok-matrix.ensures.inverse in
+    subst (λ (xs : List ℕ). IsInverse g.code.k matrix (generator_rows g.code.k xs)) c.deref.ensures.value c.in_ok-matrix.ensures.inverse in
     let row : c.as_slice.result.now ≡ fragment g.code.k g.code.k matrix c.args.index =
-      c.as_slice.ensures ∙ c.in_ok-row.ensures ∙ ap (λ m. fragment g.code.k g.code.k m c.args.index) c.deref-2.ensures.value in
+    c.as_slice.ensures ∙ c.in_ok-row.ensures ∙ ap (λ m. fragment g.code.k g.code.k m c.args.index) c.deref-2.ensures.value in
     IfOk-weaker c.row_times.result _ _
     (λ bytes is. is
-      ∙ ap₂ (λ n b. row_times n g.width (λ t. get_or c.as_slice.result.now t 0) b) (ap length row ∙ length-fragment g.code.k g.code.k matrix c.args.index) c.deref-3.ensures.value
-      ∙ fragment_decoded g.code.k g.width matrix g.indices.items g.bytes.items pieces c.as_slice.result.now c.args.index
-        (record { count = full_count g c.args.self.now c.self.view_is c.requires.enough; bytes = c.in_ok-matrix.ensures.bytes; inverse = inverse })
-        ps (subst (λ (v : Gathered). AreFragments v.k v.width pieces v.shares) (sym c.self.view_is) are) row
-      ∙ ap (λ (v : Gathered). fragment v.k v.width pieces c.args.index) c.self.view_is)
+    ∙ ap₂ (λ n b. row_times n g.width (λ t. get_or c.as_slice.result.now t 0) b) (ap length row ∙ length-fragment g.code.k g.code.k matrix c.args.index) c.deref-3.ensures.value
+    ∙ fragment_decoded g.code.k g.width matrix g.indices.items g.bytes.items pieces c.as_slice.result.now c.args.index
+    (record { count = full_count g c.args.self.now c.self.view_is c.requires.enough; bytes = c.in_ok-matrix.ensures.bytes; inverse = inverse })
+    ps (subst (λ (v : Gathered). AreFragments v.k v.width pieces v.shares) (sym c.self.view_is) are) row
+    ∙ ap (λ (v : Gathered). fragment v.k v.width pieces c.args.index) c.self.view_is)
     c.row_times.ensures
