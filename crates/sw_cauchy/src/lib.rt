@@ -9,3 +9,6 @@ mod rows;
 
 pub use crate::code::Code;
 pub use crate::gather::Gather;
+
+#[cfg(test)]
+mod tests;
