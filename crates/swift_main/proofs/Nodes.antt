@@ -14,7 +14,8 @@ map-set_same f (y ∷ ys) zero x d e = ap (λ z. z ∷ map f ys) e
 map-set_same f (y ∷ ys) (suc i) x d e = ap (λ zs. f y ∷ zs) (map-set_same f ys i x d e)
 
 -- one element more is as it must be
-pub All-take_set : {X : Type 0} (P : X → Type 0) (xs : List X) (i : ℕ) (x : X) → i < length xs → All P (take i xs) → P x → All P (take (i + 1) (set xs i x))
+pub All-take_set : {X : Type 0} (P : X → Type 0) (xs : List X) (i : ℕ) (x : X) → i < length xs → All P (take i xs) → P x
+    → All P (take (i + 1) (set xs i x))
 All-take_set P xs i x within all here = rw (take_more_set xs i x within) (All-push P (take i xs) x all here)
 
 -- what holds of the rest holds of its first element
@@ -27,12 +28,15 @@ All-drop_set P xs i x d within all =
     rw (drop-set-lt (i + 1) xs i x (omega arith)) (All-tail P (get_or xs i d) (drop (i + 1) xs) (rw (drop_more xs i d within) at all))
 
 -- the first node of the rest gets the first entry of the rest
-pub kept_more : {X : Type 0} (f : X → List Stored) (nodes : List X) (i : ℕ) (node d : X) (entry : Stored) (entries : List Stored) → i < length nodes → f node ≡ f (get_or nodes i d) ++ entry ∷ [] → take (i + 1) (map f (set nodes i node)) ++ kept (map f (drop (i + 1) (set nodes i node))) entries ≡ take i (map f nodes) ++ kept (map f (drop i nodes)) (entry ∷ entries)
+pub kept_more : {X : Type 0} (f : X → List Stored) (nodes : List X) (i : ℕ) (node d : X) (entry : Stored) (entries : List Stored)
+    → i < length nodes → f node ≡ f (get_or nodes i d) ++ entry ∷ []
+    → take (i + 1) (map f (set nodes i node)) ++ kept (map f (drop (i + 1) (set nodes i node))) entries ≡ take i (map f nodes) ++ kept (map f (drop i nodes)) (entry ∷ entries)
 kept_more f nodes i node d entry entries within e =
     rw (drop_more nodes i d within, take-map f (i + 1) (set nodes i node), take_more_set nodes i node within, drop-set-lt (i + 1) nodes i node (omega arith), map_push f (take i nodes) node, append_assoc (map f (take i nodes)) (f node ∷ []) (kept (map f (drop (i + 1) nodes)) entries), take-map f i nodes, e) refl
 
 -- after the last node each has its entry
-pub kept_all : {X : Type 0} (f : X → List Stored) (nodes : List X) (i : ℕ) (entries : List Stored) → length nodes ≤ i → take i (map f nodes) ++ kept (map f (drop i nodes)) entries ≡ map f nodes
+pub kept_all : {X : Type 0} (f : X → List Stored) (nodes : List X) (i : ℕ) (entries : List Stored) → length nodes ≤ i
+    → take i (map f nodes) ++ kept (map f (drop i nodes)) entries ≡ map f nodes
 kept_all f nodes i entries past =
     rw (drop_all i nodes past, take_all i (map f nodes) (rw (length-map nodes f) past)) (append-nil (map f nodes))
 

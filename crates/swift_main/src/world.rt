@@ -39,9 +39,9 @@ impl Model for World {
     ghost Value = { State };
 
     ghost view = { λ world. record {
-        nodes = map (λ node. node.entries.items) world.nodes.items;
-        operations = world.operations;
-        puts = world.puts
+      nodes = map (λ node. node.entries.items) world.nodes.items;
+      operations = world.operations;
+      puts = world.puts;
     } };
 
     ghost invariant = { λ world. IsPlayed (map (λ node. node.entries.items) world.nodes.items) world.operations world.puts };
@@ -103,9 +103,9 @@ impl World {
         requires short { length body.now ≤ 4194304 }
         ensures end { IfOk result (λ end. end ≡ End.Created (first_stamp + self.old.puts) all_commits) }
         ensures ok { OnOk result (self.new ≡ record {
-            nodes = kept self.old.nodes (entries_of (record { name = name.now; stamp = first_stamp + self.old.puts; body = body.now }));
-            operations = self.old.operations + 1;
-            puts = self.old.puts + 1
+          nodes = kept self.old.nodes (entries_of (record { name = name.now; stamp = first_stamp + self.old.puts; body = body.now }));
+          operations = self.old.operations + 1;
+          puts = self.old.puts + 1;
         }) }
         ensures err { OnErr result (self.new ≡ self.old) }
         ensures bytes { IsBytes body.now }

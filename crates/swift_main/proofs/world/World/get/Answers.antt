@@ -2,7 +2,7 @@ use Rattle.std.proofs.Common.{◌≡◌, List, lit<, map, ap, ◌∙◌, None, S
 use Rattle.swift_main.specs.declared.event.Event.{Event}
 use Rattle.swift_main.specs.Nodes.{StandsFor, nodes_after}
 use Rattle.swift_main.specs.Run.{latest, puts_of}
-use Rattle.swift_main.proofs.Puts.{AreShares, AreShares-of_put, IsBytes-latest, absent-end, found-end, newest-at}
+use Rattle.swift_main.proofs.Puts.{AreShares, AreShares-found, IsBytes-latest, absent-end, found-end, newest-at}
 use Rattle.swift_main.proofs.world.World.get.Goals as goal
 
 pub returns-in_default : goal.returns-in_default
@@ -18,7 +18,7 @@ returns-in_default-newest c = λ past h.
 shares : (c : goal.In-Some-newest) → AreShares c.in-Some.first.now c.in-Some-newest.second.now
 shares c =
     let puts = c.self.invariant.objects in
-    AreShares-of_put (latest c.args.name.now puts) _ _
+    AreShares-found (latest c.args.name.now puts) _ _
     (newest-at (λ node. node.entries.items) c.self.inside.nodes.items puts 0 c.index.result.now c.args.name.now _ c.self.invariant.stored (lit< tt) c.index.ensures c.in-Some.ensures)
     (newest-at (λ node. node.entries.items) c.self.inside.nodes.items puts 1 c.index-2.result.now c.args.name.now _ c.self.invariant.stored (lit< tt) c.index-2.ensures c.in-Some-newest.ensures)
 
