@@ -1,5 +1,5 @@
 -- The puts of a run, what the nodes keep of them, and what a get finds.
-use Rattle.std.proofs.Common.{◌≡◌, ℕ, ◌+◌, ◌-◌, ◌<◌, ◌≤◌, Bool, true, false, ◌&&◌, cond, List, [], ◌∷◌, ◌++◌, length, map, reverse, get_or, Option, Some, None, IfSome, refl, sym, ◌∙◌, ap, arith}
+use Rattle.std.proofs.Common.{◌≡◌, ℕ, ◌+◌, ◌-◌, ◌<◌, Bool, true, false, ◌&&◌, cond, List, [], ◌∷◌, ◌++◌, length, map, reverse, get_or, Option, Some, None, IfSome, refl, sym, ◌∙◌, ap, arith}
 use mathlib.Core.List.{reverse_aux}
 use Rattle.std.specs.List.{All, find}
 use Rattle.std.specs.Option.{option_map}
@@ -151,7 +151,7 @@ found-end (Some put) first second decoded e f bytes decodes =
     let is_first : first ≡ stored_of 0 put = cc in
     let is_second : second ≡ stored_of 1 put = cc in
     let is_body : decoded ≡ put.body =
-      decodes put.body bytes (ap (λ entry. entry.length) (sym is_first)) (ap (λ entry. entry.fragment) is_first) (ap (λ entry. entry.fragment) is_second) in
+    decodes put.body bytes (ap (λ entry. entry.length) (sym is_first)) (ap (λ entry. entry.fragment) is_first) (ap (λ entry. entry.fragment) is_second) in
     rw (is_first, is_body) refl
 
 All-reverse : {X : Type 0} (P : X → Type 0) (xs : List X) → All P xs → All P (reverse xs)

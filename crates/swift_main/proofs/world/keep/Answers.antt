@@ -1,6 +1,6 @@
-use Rattle.std.proofs.Common.{◌≡◌, ◌∷◌, ◌<◌, ◌∙◌, length, vec_len, vec_capacity, ap, sym, arith}
+use Rattle.std.proofs.Common.{◌≡◌, ◌∷◌, ◌<◌, ◌∙◌, length, vec_len, vec_capacity, ap, arith}
 use Rattle.std.specs.Vec.Iter.{into_iter_items}
-use Rattle.swift_main.proofs.Nodes.{All-drop_head, All-drop_set, kept_more, kept_all}
+use Rattle.swift_main.proofs.Nodes.{All-drop_head, All-drop_set, kept_more}
 use Rattle.swift_main.proofs.world.keep.Goals as goal
 
 pub unwrap-requires : goal.unwrap-requires

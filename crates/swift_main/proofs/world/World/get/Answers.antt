@@ -1,6 +1,5 @@
-use Rattle.std.proofs.Common.{◌≡◌, List, lit<, map, ap, ◌∙◌, None, Some}
-use Rattle.swift_main.specs.declared.event.Event.{Event}
-use Rattle.swift_main.specs.Nodes.{StandsFor, nodes_after}
+use Rattle.std.proofs.Common.{◌≡◌, lit<, map, ap, ◌∙◌, None}
+use Rattle.swift_main.specs.Nodes.{nodes_after}
 use Rattle.swift_main.specs.Run.{latest, puts_of}
 use Rattle.swift_main.proofs.Puts.{AreShares, AreShares-found, IsBytes-latest, absent-end, found-end, newest-at}
 use Rattle.swift_main.proofs.world.World.get.Goals as goal

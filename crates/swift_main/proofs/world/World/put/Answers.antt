@@ -1,4 +1,4 @@
-use Rattle.std.proofs.Common.{◌≡◌, ◌∙◌, ◌++◌, length, take, drop}
+use Rattle.std.proofs.Common.{◌∙◌, ◌++◌, length, take, drop}
 use Rattle.std.proofs.lemmas.List.{take_at}
 use Rattle.swift_main.specs.Run.{Put}
 use Rattle.swift_main.proofs.Puts.{IsPlayed-put, entries_from-put}
