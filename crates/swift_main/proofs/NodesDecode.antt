@@ -7,6 +7,7 @@ use Rattle.sw_words.specs.Bytes.{IsBytes}
 use Rattle.sw_cauchy.specs.Share.{AreFragments, Gathered, Share}
 use Rattle.sw_cauchy.specs.Stripe.{fragment, fragment_width, padded, segment_fragment}
 
+-- each place of a list of zeros reads 0, also past its end
 zero-at : (count place : ℕ) → get_or {A = ℕ} (replicate count 0) place 0 ≡ 0
 zero-at zero place = refl
 zero-at (suc count) zero = refl
@@ -18,6 +19,7 @@ IsBytes-zeros [] count are place = rw (zero-at count place) (lit< tt)
 IsBytes-zeros (byte ∷ bytes) count are zero = are 0
 IsBytes-zeros (byte ∷ bytes) count are (suc place) = IsBytes-zeros bytes count (λ at. are (suc at)) place
 
+-- how many they are
 length-zeros : (bytes : List ℕ) (count : ℕ) → length (bytes ++ replicate count 0) ≡ length bytes + count
 length-zeros bytes count = simp (length-append, length-replicate)
 

@@ -27,6 +27,7 @@ entries_from-put put fragments e = rw e refl
 pub kept-put : (puts : List Put) (put : Put) → kept (nodes_after puts) (entries_of put) ≡ nodes_after (puts ++ put ∷ [])
 kept-put puts put = rw (map_push (stored_of 0) puts put, map_push (stored_of 1) puts put, map_push (stored_of 2) puts put) refl
 
+-- a put more is an operation more
 pub IsPlayed-put : (nodes : List (List Stored)) (operations puts : ℕ) (put : Put) → IsPlayed nodes operations puts
     → IsPlayed (kept nodes (entries_of put)) (operations + 1) (puts + 1)
 IsPlayed-put nodes operations puts put played = record {
@@ -35,9 +36,11 @@ IsPlayed-put nodes operations puts put played = record {
   few = omega arith;
 }
 
+-- an object, by its name, body and stamp
 abbrev put_at : Parts → List ℕ → ℕ → Put
 put_at name body stamp = record { name = name; stamp = stamp; body = body }
 
+-- a put event at the end puts its object last, with the next stamp
 puts_from-put : (stamp : ℕ) (past : List Event) (name : Parts) (body : List ℕ)
     → puts_from stamp (past ++ event.Put name body ∷ []) ≡ puts_from stamp past ++ put_at name body (stamp + length (puts_from stamp past)) ∷ []
 puts_from-put stamp [] name body = ap (λ n. put_at name body n ∷ []) (omega arith)
@@ -46,6 +49,7 @@ puts_from-put stamp (event.Put other bytes ∷ past) name body =
     (puts_from-put (stamp + 1) past name body ∙ ap (λ n. puts_from (stamp + 1) past ++ put_at name body n ∷ []) (omega arith))
 puts_from-put stamp (event.Get other ∷ past) name body = puts_from-put stamp past name body
 
+-- a get event puts nothing
 puts_from-get : (stamp : ℕ) (past : List Event) (name : Parts) → puts_from stamp (past ++ event.Get name ∷ []) ≡ puts_from stamp past
 puts_from-get stamp [] name = refl
 puts_from-get stamp (event.Put other bytes ∷ past) name = ap (λ puts. put_at other bytes stamp ∷ puts) (puts_from-get (stamp + 1) past name)
@@ -78,6 +82,7 @@ StandsFor-get world past name stands =
 
 -- ---- what a get finds
 
+-- whether an entry is durable and of this name
 abbrev is_entry_of : Parts → Stored → Bool
 is_entry_of name = λ entry. entry.durable && name_eq entry.name name
 
@@ -88,6 +93,7 @@ find-map p f (x ∷ xs) =
     elim (p (f x)) as (λ b. cond b (Some (f x)) (find p (map f xs)) ≡ option_map f (cond b (Some x) (find (λ x. p (f x)) xs)))
     [ true ↦ refl | false ↦ find-map p f xs ]
 
+-- reversal goes through f
 reverse_aux-map : {X Y : Type 0} (f : X → Y) (xs ys : List X) → reverse_aux (map f xs) (map f ys) ≡ map f (reverse_aux xs ys)
 reverse_aux-map f [] ys = refl
 reverse_aux-map f (x ∷ xs) ys = reverse_aux-map f xs (x ∷ ys)
@@ -124,10 +130,12 @@ pub record AreShares (first second : Stored) : Type 0 where
   pub first_width : length first.fragment ≡ fragment_width 2 first.length
   pub second_width : length second.fragment ≡ fragment_width 2 first.length
 
+-- a fragment has as many bytes as its width says
 length-fragment : (k width : ℕ) (pieces : List ℕ) (i : ℕ) → length (fragment k width pieces i) ≡ width
 unfolding fragment
 length-fragment k width pieces i = length-map-range_with_len (fragment_byte k width pieces i) 0 width
 
+-- what the nodes 0 and 1 keep of one put
 pub AreShares-found : (found : Option Put) (first second : Stored) → Some first ≡ option_map (stored_of 0) found → Some second ≡ option_map (stored_of 1) found
     → AreShares first second
 AreShares-found None first second e f = cc
@@ -154,6 +162,7 @@ found-end (Some put) first second decoded e f bytes decodes =
     decodes put.body bytes (ap (λ entry. entry.length) (sym is_first)) (ap (λ entry. entry.fragment) is_first) (ap (λ entry. entry.fragment) is_second) in
     rw (is_first, is_body) refl
 
+-- what holds of each element holds of each in reverse order
 All-reverse : {X : Type 0} (P : X → Type 0) (xs : List X) → All P xs → All P (reverse xs)
 All-reverse P xs all = λ k d below.
     let within : k < length xs = rw length-reverse at below in

@@ -8,7 +8,6 @@ ghost use Rattle.swift_main.specs.Nodes.{StandsFor, IsOneSegment, entries_from, 
 ghost use Rattle.swift_main.specs.Run.{all_commits, end_of, first_stamp};
 ghost use Rattle.swift_main.specs.declared.event.Event.{Event};
 ghost use Rattle.swift_main.specs.declared.event.Event.TheVariants as event;
-ghost use Rattle.swift_main.specs.declared.node.Stored.{Stored};
 
 use crate::end::End;
 use crate::event::Event;
