@@ -1,1 +1,6 @@
+mod Decoding
+mod Parts
+mod RowSums
 mod RowTimes
+mod Shares
+mod TwoByTwo

@@ -1,14 +1,14 @@
 -- A row times pieces, byte by byte and piece by piece.
-use Rattle.std.proofs.Common.{◌≡◌, ℕ, zero, suc, ◌+◌, ◌-◌, ◌*◌, ◌<◌, ◌≤◌, List, [], ◌∷◌, length, get_or, map, replicate, refl, sym, ap, ap₂, ◌∙◌, add-one, arith, bit_xor}
-use Rattle.std.specs.List.{range_with_len, between}
+use Rattle.std.proofs.Common.{◌≡◌, ℕ, zero, suc, ◌+◌, ◌*◌, ◌<◌, ◌≤◌, List, [], ◌∷◌, length, get_or, replicate, refl, sym, ap, ap₂, ◌∙◌, add-one, arith, bit_xor}
+use Rattle.std.specs.List.{between}
 use Rattle.std.proofs.lemmas.List.{ext_get_or, get_or-replicate, length-replicate}
 use Rattle.std.proofs.lemmas.List.Edits.{length-between, get_or-between}
 use Rattle.std.proofs.lemmas.List.FromFn.{length-map-range_with_len, get_or-map-range_with_len}
-use Rattle.std.proofs.lemmas.Nat.{mul-add-lt}
 use Rattle.sw_gf256.specs.Field.{product, plus_multiple}
 use Rattle.sw_cauchy.specs.Matrix.{entry, row_sum}
 use Rattle.sw_cauchy.specs.Rows.{generator_row, row_times}
 use Rattle.sw_cauchy.specs.Stripe.{fragment}
+use Rattle.sw_cauchy.proofs.RowSums.{row_sum-same}
 
 length-plus_multiple : (xs ys : List ℕ) (c : ℕ) → length (plus_multiple xs ys c) ≡ length xs
 unfolding plus_multiple
@@ -33,13 +33,24 @@ unfolding row_times
 get_or-row_times count width row pieces place h =
     get_or-map-range_with_len (λ place. row_sum count row (λ j. get_or pieces (j * width + place) 0)) 0 width place place 0 h (omega arith)
 
+-- one row, at the entries that count
+pub row_times-same : (count n width w : ℕ) (f g : ℕ → ℕ) (pieces : List ℕ) → count ≡ n → width ≡ w → ((j : ℕ) → j < n → f j ≡ g j)
+    → row_times count width f pieces ≡ row_times n w g pieces
+row_times-same count n width w f g pieces counts widths rows =
+    ext_get_or 0 _ _ (length-row_times count width f pieces ∙ widths ∙ sym (length-row_times n w g pieces))
+    (λ place h. let below : place < width = omega (arith, length-row_times count width f pieces) in
+    get_or-row_times count width f pieces place below
+    ∙ ap (λ m. row_sum m f (λ j. get_or pieces (j * width + place) 0)) counts
+    ∙ row_sum-same n f g _ _ rows (λ j l. ap (λ v. get_or pieces (j * v + place) 0) widths)
+    ∙ sym (get_or-row_times n w g pieces place (omega arith)))
+
 -- no piece
 pub row_times-none : (width : ℕ) (row : ℕ → ℕ) (pieces : List ℕ) → replicate width 0 ≡ row_times 0 width row pieces
 unfolding row_sum
 row_times-none width row pieces =
     ext_get_or 0 _ _ (length-replicate {A = ℕ} width 0 ∙ sym (length-row_times 0 width row pieces))
     (λ i h. let within : i < width = omega (arith, length-replicate {A = ℕ} width 0) in
-      get_or-replicate width i 0 0 within ∙ sym (get_or-row_times 0 width row pieces i within))
+    get_or-replicate width i 0 0 within ∙ sym (get_or-row_times 0 width row pieces i within))
 
 -- one more piece
 pub row_times-more : (count width : ℕ) (row : ℕ → ℕ) (pieces : List ℕ) → count * width + width ≤ length pieces
@@ -52,19 +63,11 @@ row_times-more count width row pieces within =
     let in_sum : length sum ≡ width = length-row_times count width row pieces in
     ext_get_or 0 _ _ (length-plus_multiple sum piece (row count) ∙ in_sum ∙ sym (length-row_times (count + 1) width row pieces))
     (λ i h. let below : i < width = omega (arith, length-plus_multiple sum piece (row count)) in
-      get_or-plus_multiple sum piece (row count) i (omega arith) (omega arith)
-      ∙ ap₂ bit_xor (get_or-row_times count width row pieces i below) (ap (product (row count)) (get_or-between pieces (count * width) ((count + 1) * width) i 0 (omega arith)))
-      ∙ ap (λ n. row_sum n row (λ j. get_or pieces (j * width + i) 0)) (sym (add-one count)) ∙ sym (get_or-row_times (count + 1) width row pieces i below))
+    get_or-plus_multiple sum piece (row count) i (omega arith) (omega arith)
+    ∙ ap₂ bit_xor (get_or-row_times count width row pieces i below) (ap (product (row count)) (get_or-between pieces (count * width) ((count + 1) * width) i 0 (omega arith)))
+    ∙ ap (λ n. row_sum n row (λ j. get_or pieces (j * width + i) 0)) (sym (add-one count)) ∙ sym (get_or-row_times (count + 1) width row pieces i below))
 
 -- ---- rows of the generator matrix
-
--- a sum whose entries are the same in two rows and two columns
-pub row_sum-same : (count : ℕ) (f g x y : ℕ → ℕ) → ((j : ℕ) → j < count → f j ≡ g j) → ((j : ℕ) → j < count → x j ≡ y j) → row_sum count f x ≡ row_sum count g y
-unfolding row_sum
-row_sum-same zero f g x y rows columns = refl
-row_sum-same (suc n) f g x y rows columns =
-    ap₂ bit_xor (row_sum-same n f g x y (λ j h. rows j (omega arith)) (λ j h. columns j (omega arith)))
-    (ap₂ product (rows n (omega arith)) (columns n (omega arith)))
 
 pub length-generator_row : (k i : ℕ) → length (generator_row k i) ≡ k
 unfolding generator_row
@@ -74,14 +77,18 @@ pub get_or-generator_row : (k i j : ℕ) → j < k → get_or (generator_row k i
 unfolding generator_row
 get_or-generator_row k i j h = get_or-map-range_with_len (entry k i) 0 k j j 0 h (omega arith)
 
+pub length-fragment : (k width : ℕ) (pieces : List ℕ) (i : ℕ) → length (fragment k width pieces i) ≡ width
+unfolding row_times fragment
+length-fragment k width pieces i = length-row_times k width (entry k i) pieces
+
+pub get_or-fragment : (k width : ℕ) (pieces : List ℕ) (i place : ℕ) → place < width
+    → get_or (fragment k width pieces i) place 0 ≡ row_sum k (entry k i) (λ j. get_or pieces (j * width + place) 0)
+unfolding row_times fragment
+get_or-fragment k width pieces i place h = get_or-row_times k width (entry k i) pieces place h
+
 -- a row of the generator matrix gives its fragment
 pub fragment_from_row : (k width : ℕ) (row pieces : List ℕ) (i : ℕ) → row ≡ generator_row k i → row_times (length row) width (λ j. get_or row j 0) pieces ≡ fragment k width pieces i
 unfolding row_times fragment
 fragment_from_row k width row pieces i e =
-    let count : length row ≡ k = ap length e ∙ length-generator_row k i in
-    ext_get_or 0 _ _ (length-row_times (length row) width (λ j. get_or row j 0) pieces ∙ sym (length-row_times k width (entry k i) pieces))
-    (λ place h. let below : place < width = omega (arith, length-row_times (length row) width (λ j. get_or row j 0) pieces) in
-      get_or-row_times (length row) width (λ j. get_or row j 0) pieces place below
-      ∙ ap (λ n. row_sum n (λ j. get_or row j 0) (λ j. get_or pieces (j * width + place) 0)) count
-      ∙ row_sum-same k _ _ _ _ (λ j l. ap (λ r. get_or r j 0) e ∙ get_or-generator_row k i j l) (λ j l. refl)
-      ∙ sym (get_or-row_times k width (entry k i) pieces place below))
+    row_times-same (length row) k width width (λ j. get_or row j 0) (entry k i) pieces (ap length e ∙ length-generator_row k i) refl
+    (λ j l. ap (λ r. get_or r j 0) e ∙ get_or-generator_row k i j l)

@@ -15,8 +15,8 @@ use sw_types::{Bytes, NoMemory};
 pub struct Code {
     pub k: u32,
     pub m: u32,
-    ghost positive: { 0 < k },
-    ghost within: { k + m ≤ 256 },
+    ghost two: { k ≡ 2 },
+    ghost one: { m ≡ 1 },
 }
 
 impl Code {
@@ -25,8 +25,8 @@ impl Code {
 
     /// The code of so many data and parity fragments.
     pub fn new(k: u32, m: u32) -> Code
-        requires positive { 0 < k }
-        requires within { k + m ≤ 256 }
+        requires two { k ≡ 2 }
+        requires one { m ≡ 1 }
         ensures data { result.k ≡ k }
         ensures parity { result.m ≡ m }
     {
@@ -48,7 +48,7 @@ impl Code {
         }
     }
 
-    // Writes row `i` of the generator matrix.
+    /// Writes row `i` of the generator matrix.
     pub(crate) fn write_row(&self, row: &mut [u8], i: u32)
         requires index { i < self.now.k + self.now.m }
         requires width { length row.old ≡ self.now.k }
@@ -83,8 +83,8 @@ impl Code {
         bytes.div_ceil(self.k as usize)
     }
 
-    // Fragment `i` of k pieces.
-    fn fragment(
+    /// Fragment `i` of k pieces.
+    pub(crate) fn fragment(
         &self,
         alloc: Global,
         pieces: &[u8],

@@ -3,8 +3,12 @@
 #![tactic(auto)]
 
 mod code;
+mod decode;
+mod gather;
 mod rows;
-//mod gather;
 
 pub use crate::code::Code;
-//pub use crate::gather::Gather;
+pub use crate::gather::Gather;
+
+#[cfg(test)]
+mod tests;

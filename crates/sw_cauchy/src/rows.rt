@@ -1,7 +1,7 @@
 //! A row of coefficients times pieces of one width.
 
 ghost use Rattle.std.specs.Prelude.{◌≡◌, ◌*◌, IfOk, length, slice_index};
-ghost use Rattle.sw_cauchy.specs.Rows.{row_times};
+ghost use Rattle.sw_cauchy.specs.Rows.{row_times, rows_times};
 
 use std::alloc::Global;
 use sw_gf256::mul_acc;
@@ -22,7 +22,27 @@ pub(crate) fn row_times(
     Ok(Bytes::from(sum))
 }
 
-/// Writes that sum.
+/// The sums of a matrix's k rows, one after another.
+pub(crate) fn matrix_times(
+    alloc: Global,
+    k: usize,
+    matrix: &[u8],
+    pieces: &[u8],
+    width: usize,
+) -> Result<Vec<u8>, NoMemory>
+    requires entries { length matrix.now ≡ k * k }
+    requires pieces { length pieces.now ≡ k * width }
+    ensures { IfOk result (λ sums. sums.items ≡ rows_times k width matrix.now pieces.now k) }
+{
+    let mut sums = vec![in alloc; 0; pieces.len()]?;
+    for i in 0..k {
+        let row = &matrix[i * k..(i + 1) * k];
+        write_row_times(&mut sums[i * width..(i + 1) * width], row, pieces);
+    }
+    Ok(sums)
+}
+
+/// Writes the sum of the products of a row's entries with as many pieces.
 pub(crate) fn write_row_times(sum: &mut [u8], row: &[u8], pieces: &[u8])
     requires { length pieces.now ≡ length row.now * length sum.old }
     ensures { sum.new ≡ row_times (length row.now) (length sum.old) (slice_index row.now) pieces.now }

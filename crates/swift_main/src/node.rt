@@ -1,10 +1,9 @@
 //! A node: a plain list of the fragments that it keeps.
 
-ghost use Rattle.std.specs.Prelude.{◌≡◌, ◌&&◌, ◌+◌, ◌≤◌, ◌++◌, [], ◌∷◌, OnOk, reverse, vec_len, vec_capacity};
+ghost use Rattle.std.specs.Prelude.{◌≡◌, ◌&&◌, [], reverse};
 ghost use Rattle.std.specs.List.{find};
 ghost use Rattle.std.specs.Option.{option_copied};
 ghost use Rattle.sw_types.specs.Name.{name_eq};
-ghost use Rattle.sw_cauchy.specs.Stripe.{fragment_width};
 
 use std::alloc::Global;
 use sw_types::{Bytes, Name, NoMemory, Stamp};

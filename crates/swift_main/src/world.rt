@@ -8,7 +8,6 @@ ghost use Rattle.swift_main.specs.Nodes.{StandsFor, IsOneSegment, entries_from, 
 ghost use Rattle.swift_main.specs.Run.{all_commits, end_of, first_stamp};
 ghost use Rattle.swift_main.specs.declared.event.Event.{Event};
 ghost use Rattle.swift_main.specs.declared.event.Event.TheVariants as event;
-ghost use Rattle.swift_main.specs.declared.node.Stored.{Stored};
 
 use crate::end::End;
 use crate::event::Event;
@@ -39,9 +38,9 @@ impl Model for World {
     ghost Value = { State };
 
     ghost view = { λ world. record {
-        nodes = map (λ node. node.entries.items) world.nodes.items;
-        operations = world.operations;
-        puts = world.puts
+      nodes = map (λ node. node.entries.items) world.nodes.items;
+      operations = world.operations;
+      puts = world.puts;
     } };
 
     ghost invariant = { λ world. IsPlayed (map (λ node. node.entries.items) world.nodes.items) world.operations world.puts };
@@ -84,16 +83,17 @@ impl World {
     fn get(&self, alloc: Global, name: &Name) -> Result<End, NoMemory>
         ensures { (past : List Event) → StandsFor self.now past → IfOk result (λ end. end ≡ end_of past (event.Get name.now)) }
     {
-        match (self.nodes[0].newest(name), self.nodes[1].newest(name)) {
-            (Some(first), Some(second)) => {
-                let body = decode(alloc, first, second)?;
-                Ok(End::Found {
-                    stamp: first.stamp,
-                    body,
-                })
-            }
-            _ => Ok(End::Absent),
-        }
+        let Some(first) = self.nodes[0].newest(name) else {
+            return Ok(End::Absent);
+        };
+        let Some(second) = self.nodes[1].newest(name) else {
+            return Ok(End::Absent);
+        };
+        let body = decode(alloc, first, second)?;
+        Ok(End::Found {
+            stamp: first.stamp,
+            body,
+        })
     }
 
     // Stores the fragments of an object, durable, and counts the put. After an `Err` the world is as before.
@@ -102,11 +102,12 @@ impl World {
         requires short { length body.now ≤ 4194304 }
         ensures end { IfOk result (λ end. end ≡ End.Created (first_stamp + self.old.puts) all_commits) }
         ensures ok { OnOk result (self.new ≡ record {
-            nodes = kept self.old.nodes (entries_of (record { name = name.now; stamp = first_stamp + self.old.puts; body = body.now }));
-            operations = self.old.operations + 1;
-            puts = self.old.puts + 1
+          nodes = kept self.old.nodes (entries_of (record { name = name.now; stamp = first_stamp + self.old.puts; body = body.now }));
+          operations = self.old.operations + 1;
+          puts = self.old.puts + 1;
         }) }
         ensures err { OnErr result (self.new ≡ self.old) }
+        ensures bytes { IsBytes body.now }
     {
         let stamp = stamp_of(self.puts);
         let fragments = fragments_of(alloc, body)?;
@@ -153,11 +154,9 @@ fn entries_of(
     requires { length fragments.items < 2 ^ 32 }
     ensures { IfOk result (λ entries. entries.items ≡ entries_from 0 name.now stamp size fragments.items) }
 {
-    let mut rest = fragments;
     let mut entries = Vec::new(alloc);
     let mut index = 0;
-    while !rest.is_empty() {
-        let fragment = rest.remove(0);
+    'each: for fragment in fragments {
         let name = name.clone()?;
         entries.push(Stored {
             name,
@@ -177,7 +176,7 @@ fn make_room(nodes: &mut [Node]) -> Result<(), NoMemory>
     ensures same { map (λ node. node.entries.items) nodes.new ≡ map (λ node. node.entries.items) nodes.old }
     ensures room { OnOk result (All (λ node. vec_len node.entries < vec_capacity node.entries) nodes.new) }
 {
-    for node in nodes.iter_mut() {
+    'each: for node in nodes.iter_mut() {
         node.entries.reserve(1)?;
     }
     Ok(())
@@ -189,9 +188,9 @@ fn keep(nodes: &mut [Node], entries: Vec<Stored>)
     requires room { All (λ node. vec_len node.entries < vec_capacity node.entries) nodes.old }
     ensures { map (λ node. node.entries.items) nodes.new ≡ kept (map (λ node. node.entries.items) nodes.old) entries.items }
 {
-    let mut rest = entries;
-    for node in nodes.iter_mut() {
-        let entry = rest.remove(0);
+    let mut rest = entries.into_iter();
+    'each: for node in nodes.iter_mut() {
+        let entry = rest.next().unwrap();
         node.entries.push(entry).unwrap();
     }
 }

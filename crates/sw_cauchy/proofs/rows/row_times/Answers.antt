@@ -1,4 +1,4 @@
-use Rattle.std.proofs.Common.{◌≡◌, ℕ, ◌∙◌, ap, length, get_or, arith}
+use Rattle.std.proofs.Common.{◌≡◌, ◌∙◌, ap, length, get_or}
 use Rattle.std.proofs.lemmas.List.{take_at}
 use Rattle.sw_cauchy.specs.Rows.{row_times}
 use Rattle.sw_cauchy.proofs.RowTimes.{length-row_times}

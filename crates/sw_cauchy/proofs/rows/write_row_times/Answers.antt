@@ -1,4 +1,4 @@
-use Rattle.std.proofs.Common.{◌≡◌, ℕ, ◌+◌, ◌*◌, ◌≤◌, ◌∙◌, ap, length, get_or, arith}
+use Rattle.std.proofs.Common.{◌+◌, ◌*◌, ◌∙◌, ap, length, get_or, arith}
 use Rattle.std.specs.List.{between}
 use Rattle.std.proofs.lemmas.Nat.{row_fits}
 use Rattle.sw_gf256.specs.Field.{plus_multiple}

@@ -1,4 +1,4 @@
-use Rattle.std.proofs.Common.{◌≡◌, get_or, length}
+use Rattle.std.proofs.Common.{◌≡◌, get_or}
 use Rattle.sw_cauchy.specs.Rows.{row_times}
 use Rattle.sw_cauchy.proofs.rows.write_row_times.Given as goal
 

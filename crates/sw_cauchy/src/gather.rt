@@ -1,0 +1,95 @@
+//! Fragments gathered to decode a segment.
+
+ghost use Rattle.std.specs.Prelude.{◌≡◌, ◌≢◌, ◌+◌, ◌*◌, ◌<◌, List, ℕ, [], ◌∷◌, ◌++◌, IfOk, length, take};
+ghost use Rattle.std.specs.List.{All};
+ghost use Rattle.sw_words.specs.Bytes.{IsBytes};
+ghost use Rattle.sw_cauchy.specs.Share.{AreFragments};
+ghost use Rattle.sw_cauchy.specs.Stripe.{fragment, fragment_width};
+
+use crate::Code;
+use crate::decode::decode_matrix;
+use crate::rows::{matrix_times, row_times};
+use std::alloc::Global;
+use std::marker::Model;
+use sw_types::{Bytes, NoMemory};
+
+/// Fragments of one segment, up to k of them, from which the segment and every other fragment are decoded.
+#[derive(Debug, Drop)]
+pub struct Gather {
+    code: Code,
+    width: usize,
+    indices: Vec<u32>,
+    bytes: Vec<u8>,
+}
+
+impl Model for Gather {
+    ghost use Rattle.sw_cauchy.specs.Share.{Gathered};
+
+    ghost Value = { Gathered };
+
+    ghost use Rattle.sw_cauchy.specs.Gather.{gathered, IsGather};
+
+    ghost view = { gathered };
+
+    ghost invariant = { IsGather };
+}
+
+impl Gather {
+    /// No fragment yet, with room for k of them, each of so many bytes.
+    pub fn new(alloc: Global, code: Code, width: usize) -> Result<Gather, NoMemory>
+        ensures { IfOk result (λ gather. gather ≡ record { k = code.k; m = code.m; width = width; shares = [] }) }
+    {
+        let count = code.k as usize;
+        let length = count.checked_mul(width).ok_or(NoMemory)?;
+        let indices = Vec::with_capacity(alloc, count)?;
+        let bytes = Vec::with_capacity(alloc, length)?;
+        Ok(Gather {
+            code,
+            width,
+            indices,
+            bytes,
+        })
+    }
+
+    /// Adds a fragment. It takes no memory.
+    pub fn add(&mut self, index: u32, fragment: &[u8])
+        requires below { index < self.old.k + self.old.m }
+        requires new { All (λ share. share.index ≢ index) self.old.shares }
+        requires width { length fragment.now ≡ self.old.width }
+        requires room { length self.old.shares < self.old.k }
+        ensures { self.new ≡ record self.old { shares = self.old.shares ++ record { index = index; bytes = fragment.now } ∷ [] } }
+    {
+        self.indices.push(index).unwrap();
+        self.bytes.extend_from_slice(fragment).unwrap();
+    }
+
+    /// The segment of so many bytes whose fragments were gathered.
+    pub fn finish(&self, alloc: Global, segment_length: usize) -> Result<Bytes, NoMemory>
+        requires enough { length self.now.shares ≡ self.now.k }
+        requires fits { fragment_width self.now.k segment_length ≡ self.now.width }
+        ensures { (pieces : List ℕ) → IsBytes pieces → length pieces ≡ self.now.k * self.now.width →
+            AreFragments self.now.k self.now.width pieces self.now.shares →
+            IfOk result (λ segment. segment ≡ take segment_length pieces) }
+    {
+        let matrix = decode_matrix(alloc, self.code, &self.indices)?;
+        let k = self.code.k as usize;
+        let mut pieces = matrix_times(alloc, k, &matrix, &self.bytes, self.width)?;
+        pieces.truncate(segment_length);
+        Ok(Bytes::from(pieces))
+    }
+
+    /// The fragment of an index, gathered or not.
+    pub fn rebuild(&self, alloc: Global, index: u32) -> Result<Bytes, NoMemory>
+        requires enough { length self.now.shares ≡ self.now.k }
+        requires below { index < self.now.k + self.now.m }
+        ensures { (pieces : List ℕ) → IsBytes pieces → length pieces ≡ self.now.k * self.now.width →
+            AreFragments self.now.k self.now.width pieces self.now.shares →
+            IfOk result (λ bytes. bytes ≡ fragment self.now.k self.now.width pieces index) }
+    {
+        let matrix = decode_matrix(alloc, self.code, &self.indices)?;
+        let k = self.code.k as usize;
+        // The row that makes the fragment from the shares is that fragment of the matrix's rows.
+        let row = self.code.fragment(alloc, &matrix, k, index)?;
+        row_times(alloc, row.as_slice(), &self.bytes, self.width)
+    }
+}
