@@ -18,6 +18,7 @@ use Rattle.sw_cauchy.proofs.RowSums.{row_sum-same, Undoes, undone, undone_in_row
 use Rattle.sw_cauchy.proofs.RowTimes.{length-row_times, get_or-row_times, length-generator_row, get_or-generator_row, length-fragment, get_or-fragment}
 use Rattle.sw_cauchy.proofs.Shares.{length-shares_of, share_index, share_byte}
 
+-- an entry of the generator matrix is a byte
 entry-lt : (k i j : ℕ) → entry k i j < 256
 entry-lt k i j =
     elim (cases_Bool (nat_lt i k)) [
@@ -31,6 +32,7 @@ pub record Decodes (k : ℕ) (matrix indices : List ℕ) : Type 0 where
   pub bytes : IsBytes matrix
   pub inverse : IsInverse k matrix (generator_rows k indices)
 
+-- the decoding matrix undoes the rows of its indices
 decodes-undoes : (k : ℕ) (matrix indices : List ℕ) → Decodes k matrix indices → Undoes k (matrix_entry k matrix) (λ t. entry k (get_or indices t 0))
 decodes-undoes k matrix indices decodes = record {
   units = λ i j h l.

@@ -10,13 +10,16 @@ use Rattle.std.proofs.lemmas.Slice.{take-put_mid}
 pub flat_map-push : (f : ℕ → List ℕ) (xs : List ℕ) (x : ℕ) → flat_map f (xs ++ x ∷ []) ≡ flat_map f xs ++ f x
 flat_map-push f xs x = sym (flat_map_more f [] xs x)
 
+-- one more number
 range_more : (n : ℕ) → range_with_len 0 (n + 1) ≡ range_with_len 0 n ++ n ∷ []
 range_more n =
     sym (map-id (range_with_len 0 (n + 1))) ∙ map-range_with_len_more (λ i. i) 0 n n (zero-add n) ∙ ap (λ xs. xs ++ n ∷ []) (map-id (range_with_len 0 n))
 
+-- one more part, made from its place
 pub flat_map-range_more : (f : ℕ → List ℕ) (n : ℕ) → flat_map f (range_with_len 0 (n + 1)) ≡ flat_map f (range_with_len 0 n) ++ f n
 flat_map-range_more f n = ap (flat_map f) (range_more n) ∙ flat_map-push f (range_with_len 0 n) n
 
+-- as many elements as parts of that width have
 pub length-parts : (f : ℕ → List ℕ) (width : ℕ) (xs : List ℕ) → ((x : ℕ) → length (f x) ≡ width) → length (flat_map f xs) ≡ length xs * width
 length-parts f width [] wide = omega arith
 length-parts f width (x ∷ xs) wide = length-append (f x) (flat_map f xs) ∙ omega (arith, wide x, length-parts f width xs wide)
@@ -31,6 +34,7 @@ get_or-part f width (x ∷ xs) (suc i) place wide h l =
     get_or-append_right (f x) (flat_map f xs) width (suc i * width + place) 0 (wide x) (omega arith)
     ∙ ap (λ n. get_or (flat_map f xs) n 0) (omega arith) ∙ get_or-part f width xs i place wide (omega arith) l
 
+-- a write to a part keeps the length
 length-put_mid : (a k : ℕ) (xs ys : List ℕ) → a + k ≤ length xs → length ys ≡ k → length (put_mid a k xs ys) ≡ length xs
 length-put_mid a k xs ys h e = simp (length-append, length-take, length-drop) (omega arith)
 

@@ -16,11 +16,13 @@ row_sum-same (suc n) f g x y rows columns =
     ap₂ bit_xor (row_sum-same n f g x y (λ j h. rows j (omega arith)) (λ j h. columns j (omega arith)))
     (ap₂ product (rows n (omega arith)) (columns n (omega arith)))
 
+-- a sum of products is a byte
 row_sum-lt : (count : ℕ) (f x : ℕ → ℕ) → ((j : ℕ) → f j < 256) → ((j : ℕ) → x j < 256) → row_sum count f x < 256
 unfolding row_sum
 row_sum-lt zero f x fs xs = omega arith
 row_sum-lt (suc n) f x fs xs = xor_lt 8 _ _ (row_sum-lt n f x fs xs) (product_lt (f n) (x n) (fs n) (xs n))
 
+-- a sum over a column of zeros
 row_sum-zeros : (count : ℕ) (f : ℕ → ℕ) → row_sum count f (λ j. 0) ≡ 0
 unfolding row_sum
 row_sum-zeros zero f = refl

@@ -10,12 +10,14 @@ use Rattle.sw_cauchy.specs.Rows.{generator_row, row_times}
 use Rattle.sw_cauchy.specs.Stripe.{fragment}
 use Rattle.sw_cauchy.proofs.RowSums.{row_sum-same}
 
+-- a multiple is added without a change of length
 length-plus_multiple : (xs ys : List ℕ) (c : ℕ) → length (plus_multiple xs ys c) ≡ length xs
 unfolding plus_multiple
 length-plus_multiple [] ys c = refl
 length-plus_multiple (x ∷ xs) [] c = refl
 length-plus_multiple (x ∷ xs) (y ∷ ys) c = ap suc (length-plus_multiple xs ys c)
 
+-- a multiple is added at each place
 get_or-plus_multiple : (xs ys : List ℕ) (c i : ℕ) → i < length xs → length ys ≡ length xs → get_or (plus_multiple xs ys c) i 0 ≡ bit_xor (get_or xs i 0) (product c (get_or ys i 0))
 unfolding plus_multiple
 get_or-plus_multiple [] ys c i h e = absurd (omega arith)
@@ -23,10 +25,12 @@ get_or-plus_multiple (x ∷ xs) [] c i h e = absurd (omega arith)
 get_or-plus_multiple (x ∷ xs) (y ∷ ys) c zero h e = refl
 get_or-plus_multiple (x ∷ xs) (y ∷ ys) c (suc i) h e = get_or-plus_multiple xs ys c i (omega arith) (omega arith)
 
+-- a row times pieces is as wide as they are
 pub length-row_times : (count width : ℕ) (row : ℕ → ℕ) (pieces : List ℕ) → length (row_times count width row pieces) ≡ width
 unfolding row_times
 length-row_times count width row pieces = length-map-range_with_len _ 0 width
 
+-- the byte at a place of a row times pieces
 pub get_or-row_times : (count width : ℕ) (row : ℕ → ℕ) (pieces : List ℕ) (place : ℕ) → place < width
     → get_or (row_times count width row pieces) place 0 ≡ row_sum count row (λ j. get_or pieces (j * width + place) 0)
 unfolding row_times
@@ -69,18 +73,22 @@ row_times-more count width row pieces within =
 
 -- ---- rows of the generator matrix
 
+-- a row has k entries
 pub length-generator_row : (k i : ℕ) → length (generator_row k i) ≡ k
 unfolding generator_row
 length-generator_row k i = length-map-range_with_len (entry k i) 0 k
 
+-- an entry of a row
 pub get_or-generator_row : (k i j : ℕ) → j < k → get_or (generator_row k i) j 0 ≡ entry k i j
 unfolding generator_row
 get_or-generator_row k i j h = get_or-map-range_with_len (entry k i) 0 k j j 0 h (omega arith)
 
+-- a fragment is as wide as the pieces
 pub length-fragment : (k width : ℕ) (pieces : List ℕ) (i : ℕ) → length (fragment k width pieces i) ≡ width
 unfolding row_times fragment
 length-fragment k width pieces i = length-row_times k width (entry k i) pieces
 
+-- the byte at a place of a fragment
 pub get_or-fragment : (k width : ℕ) (pieces : List ℕ) (i place : ℕ) → place < width
     → get_or (fragment k width pieces i) place 0 ≡ row_sum k (entry k i) (λ j. get_or pieces (j * width + place) 0)
 unfolding row_times fragment

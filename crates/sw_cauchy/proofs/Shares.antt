@@ -10,6 +10,7 @@ use Rattle.sw_cauchy.specs.declared.gather.Gather.TheInside.{Inside}
 use Rattle.sw_cauchy.specs.Gather.{shares_of, gathered, IsGather}
 use Rattle.sw_cauchy.specs.Share.{Share, Gathered}
 
+-- as many shares as indices
 pub length-shares_of : (width : ℕ) (indices bytes : List ℕ) → length (shares_of width indices bytes) ≡ length indices
 length-shares_of width [] bytes = refl
 length-shares_of width (i ∷ indices) bytes = ap suc (length-shares_of width indices (drop width bytes))
@@ -27,11 +28,13 @@ shares_of-push width (j ∷ indices) bytes i new filled e =
     ap₂ (λ b shares. P b ∷ shares) (take-append-le width bytes new (omega arith))
     (ap (shares_of width (indices ++ i ∷ [])) (drop-append-le width bytes new (omega arith)) ∙ shares_of-push width indices (drop width bytes) i new rest e)
 
+-- the index of a share
 pub share_index : (width : ℕ) (indices bytes : List ℕ) (t : ℕ) (d : Share) (e : ℕ) → t < length indices → (get_or (shares_of width indices bytes) t d).index ≡ get_or indices t e
 share_index width [] bytes t d e h = absurd (omega arith)
 share_index width (i ∷ indices) bytes zero d e h = refl
 share_index width (i ∷ indices) bytes (suc t) d e h = share_index width indices (drop width bytes) t d e (omega arith)
 
+-- the byte at a place of a share
 pub share_byte : (width : ℕ) (indices bytes : List ℕ) (t place : ℕ) (d : Share) → t < length indices → place < width
     → get_or ((get_or (shares_of width indices bytes) t d).bytes) place 0 ≡ get_or bytes (t * width + place) 0
 share_byte width [] bytes t place d h l = absurd (omega arith)
@@ -40,15 +43,16 @@ share_byte width (i ∷ indices) bytes (suc t) place d h l =
     share_byte width indices (drop width bytes) t place d (omega arith) l
     ∙ get_or-drop width bytes (t * width + place) 0 ∙ ap (λ n. get_or bytes n 0) (omega arith)
 
--- there are as many shares as indices
+-- the number of shares gathered
 pub count_of_gathered : (inside : Inside) (gather : Gathered) → gathered inside ≡ gather → length gather.shares ≡ length inside.indices.items
 count_of_gathered inside gather view =
     sym (ap (λ (v : Gathered). length v.shares) view) ∙ length-shares_of inside.width inside.indices.items inside.bytes.items
 
--- with k shares there are k indices, and k pieces of bytes
+-- with k shares there are k indices
 pub full_count : (inside : Inside) (gather : Gathered) → gathered inside ≡ gather → length gather.shares ≡ gather.k → length inside.indices.items ≡ inside.code.k
 full_count inside gather view enough = omega (arith, count_of_gathered inside gather view, ap (λ (v : Gathered). v.k) view)
 
+-- and k pieces of bytes
 pub full_bytes : (inside : Inside) (gather : Gathered) → gathered inside ≡ gather → IsGather inside → length gather.shares ≡ gather.k → length inside.bytes.items ≡ inside.code.k * inside.width
 full_bytes inside gather view kept enough = kept.filled ∙ ap (λ n. n * inside.width) (full_count inside gather view enough)
 
@@ -62,6 +66,7 @@ pub record MayAdd (before : Inside) (index : ℕ) (fragment : List ℕ) : Type 0
   pub below : index < before.code.k + before.code.m
   pub new : (t d : ℕ) → t < length before.indices.items → get_or before.indices.items t d ≢ index
 
+-- the conditions of adding, of the fields
 pub may_add : (before : Inside) (gather : Gathered) (index : ℕ) (fragment : List ℕ) → gathered before ≡ gather → IsGather before
     → index < gather.k + gather.m → All (λ share. share.index ≢ index) gather.shares → length fragment ≡ gather.width → length gather.shares < gather.k
     → MayAdd before index fragment
@@ -92,6 +97,7 @@ pub record IsAdded (before after : Inside) (index : ℕ) (fragment : List ℕ) :
   pub index_room : vec_capacity before.indices ≤ vec_capacity after.indices
   pub byte_room : vec_capacity before.bytes ≤ vec_capacity after.bytes
 
+-- what is kept stays in order
 pub IsGather-added : (before after : Inside) (index : ℕ) (fragment : List ℕ) → MayAdd before index fragment → IsAdded before after index fragment → IsGather after
 IsGather-added before after index fragment may added =
     let k = ap (λ (code : Code). code.k) added.code in
@@ -107,6 +113,7 @@ IsGather-added before after index fragment may added =
       byte_room = omega (arith, may.kept.byte_room, ap₂ (λ n w. n * w) k added.width);
     }
 
+-- the share is the last one gathered
 pub gathered-added : (before after : Inside) (gather : Gathered) (index : ℕ) (fragment : List ℕ) → gathered before ≡ gather → MayAdd before index fragment → IsAdded before after index fragment
     → gathered after ≡ record gather { shares = gather.shares ++ record { index = index; bytes = fragment } ∷ [] }
 gathered-added before after gather index fragment view may added =

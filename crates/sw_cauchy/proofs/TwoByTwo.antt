@@ -52,6 +52,7 @@ inverted a b c d s ha hb hc hd regular is =
     at_place (suc zero) (suc (suc j)) h l = absurd (omega arith)
     at_place (suc (suc i)) j h l = absurd (omega arith)
 
+-- the inverse of four entries
 pub inverse_of_two : (rows : List ℕ) (s : ℕ) → length rows ≡ 4 → IsBytes rows → determinant rows ≢ 0 → s ≡ inverse (determinant rows)
     → IsInverse 2 (product (get_or rows 3 0) s ∷ product (get_or rows 1 0) s ∷ product (get_or rows 2 0) s ∷ product (get_or rows 0 0) s ∷ []) rows
 inverse_of_two (a ∷ b ∷ c ∷ d ∷ []) s four bytes regular is = inverted a b c d s (bytes 0) (bytes 1) (bytes 2) (bytes 3) regular is
@@ -69,6 +70,7 @@ two_rows s t hs ht apart none =
     clash false true e f g = cc
     clash false false e f g = cc
 
+-- the same of the rows one after another
 pub regular_rows : (indices : List ℕ) → length indices ≡ 2 → get_or indices 0 0 < 3 → get_or indices 1 0 < 3 → get_or indices 0 0 ≢ get_or indices 1 0 → determinant (generator_rows 2 indices) ≢ 0
 unfolding generator_row
 regular_rows (s ∷ t ∷ []) two hs ht apart none = two_rows s t hs ht apart none

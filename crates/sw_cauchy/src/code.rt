@@ -83,7 +83,7 @@ impl Code {
         bytes.div_ceil(self.k as usize)
     }
 
-    /// Fragment `i` of k pieces.
+    /// Fragment `i` of k pieces of one width, which stand one after another.
     pub(crate) fn fragment(
         &self,
         alloc: Global,

@@ -12,7 +12,7 @@ use std::alloc::Global;
 use sw_gf256::{inv, mul};
 use sw_types::NoMemory;
 
-/// The inverse of the matrix of the generator matrix's rows of k indices.
+/// The inverse of the matrix that k rows of the generator matrix make, those of the indices.
 pub(crate) fn decode_matrix(alloc: Global, code: Code, indices: &[u32]) -> Result<Vec<u8>, NoMemory>
     requires count { length indices.now ≡ code.k }
     requires below { All (λ index. index < code.k + code.m) indices.now }
@@ -25,7 +25,7 @@ pub(crate) fn decode_matrix(alloc: Global, code: Code, indices: &[u32]) -> Resul
     invert(alloc, &rows)
 }
 
-// The generator matrix's rows of these indices, one after another.
+// The rows of the generator matrix of these indices, one after another.
 fn generator_rows(alloc: Global, code: Code, indices: &[u32]) -> Result<Vec<u8>, NoMemory>
     requires count { length indices.now ≡ code.k }
     requires below { All (λ index. index < code.k + code.m) indices.now }

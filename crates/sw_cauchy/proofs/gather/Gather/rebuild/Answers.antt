@@ -16,7 +16,7 @@ decode_matrix-requires-clause-count c =
 pub row_times-requires : goal.row_times-requires
 row_times-requires c =
     let g = c.self.inside in
-    let row : length c.as_slice.result.now ≡ g.code.k = ap length (c.as_slice.ensures ∙ c.in_ok-row.ensures) ∙ length-fragment g.code.k g.code.k c.deref-2.result.now c.args.index in
+    let row : length c.as_slice.result.now ≡ g.code.k = ap length (c.as_slice.ensures ∙ c.in_ok-row.ensures) ∙ length-fragment _ _ _ _ in
     ap length c.deref-3.ensures.value ∙ full_bytes g c.args.self.now c.self.view_is c.self.invariant c.requires.enough
     ∙ ap (λ n. n * g.width) (sym row)
 
