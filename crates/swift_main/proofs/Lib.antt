@@ -3,6 +3,7 @@ mod Founds
 mod Nodes
 mod NodesDecode
 mod Outcomes
+mod Outsides
 mod Puts
 mod Runs
 mod Segments

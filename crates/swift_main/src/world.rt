@@ -60,6 +60,13 @@ impl World {
         })
     }
 
+    /// How many operations were run.
+    pub fn operations(&self) -> u64
+        ensures { result ≡ self.now.operations }
+    {
+        self.operations
+    }
+
     /// Runs an event as the next operation, and answers how it ended. After an `Err` the world is as before.
     pub fn run(&mut self, alloc: Global, event: &Event) -> Result<End, NoMemory>
         requires few { self.old.operations < 2 ^ 41 }
