@@ -1,5 +1,7 @@
 //! Stamps, hex texts, names and bytes.
 
+use super::NameFault::{Empty, NotUtf8, Nul, Slash, TooLong};
+use super::Part::{Account, Container, Object};
 use super::*;
 use std::test::Fail;
 
@@ -56,42 +58,22 @@ fn names_the_first_fault(rt: HostRuntime) {
         (b"a", b"c", b"o", None),
         (b"a", b"c", b"/o//p/", None),
         (&long[..256], &long[..256], &long[..1_024], None),
-        (b"", b"c", b"o", Some(NameFault::Empty(Part::Account))),
-        (b"a", b"", b"o", Some(NameFault::Empty(Part::Container))),
-        (b"a", b"c", b"", Some(NameFault::Empty(Part::Object))),
-        (
-            &long[..257],
-            b"c",
-            b"o",
-            Some(NameFault::TooLong(Part::Account, 257)),
-        ),
-        (
-            b"a",
-            &long[..257],
-            b"o",
-            Some(NameFault::TooLong(Part::Container, 257)),
-        ),
-        (
-            b"a",
-            b"c",
-            &long,
-            Some(NameFault::TooLong(Part::Object, 1_025)),
-        ),
-        (
-            b"a",
-            b"\xff",
-            b"o",
-            Some(NameFault::NotUtf8(Part::Container)),
-        ),
-        (b"a", b"c", b"o\0", Some(NameFault::Nul(Part::Object))),
-        (b"a/b", b"c", b"o", Some(NameFault::Slash(Part::Account))),
+        (b"", b"c", b"o", Some(Empty(Account))),
+        (b"a", b"", b"o", Some(Empty(Container))),
+        (b"a", b"c", b"", Some(Empty(Object))),
+        (&long[..257], b"c", b"o", Some(TooLong(Account, 257))),
+        (b"a", &long[..257], b"o", Some(TooLong(Container, 257))),
+        (b"a", b"c", &long, Some(TooLong(Object, 1_025))),
+        (b"a", b"\xff", b"o", Some(NotUtf8(Container))),
+        (b"a", b"c", b"o\0", Some(Nul(Object))),
+        (b"a/b", b"c", b"o", Some(Slash(Account))),
         // The first fault of the first part that has one.
-        (b"a", b"/\0", b"", Some(NameFault::Nul(Part::Container))),
-        (b"/", b"", b"\xff", Some(NameFault::Slash(Part::Account))),
+        (b"a", b"/\0", b"", Some(Nul(Container))),
+        (b"/", b"", b"\xff", Some(Slash(Account))),
     ];
     for (account, container, object, want) in cases {
         let fault = Name::make(rt.alloc(), account, container, object).err();
-        assert_eq!(rt; fault, want, "of {account:?}, {container:?} and {object:?}");
+        assert_eq!(rt; fault, want);
     }
 }
 
