@@ -14,3 +14,6 @@ pub use crate::hexadecimal::{HexFault, hex_law, print_hex, read_hex};
 pub use crate::memory::NoMemory;
 pub use crate::name::{Name, NameFault, Part, name_law};
 pub use crate::stamp::Stamp;
+
+#[cfg(test)]
+mod tests;

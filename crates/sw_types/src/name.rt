@@ -1,6 +1,6 @@
 //! Names of objects.
 
-ghost use Rattle.std.specs.Prelude.{◌≡◌, ◌⊎◌, Some, None, IfOk, IfErr, MatchResult, MatchOption, nat_eq, ◌==◌, ◌&&◌, not, true, false};
+ghost use Rattle.std.specs.Prelude.{◌≡◌, ◌⊎◌, Some, None, IfOk, IfErr, IfSome, MatchResult, MatchOption, nat_eq, ◌==◌, ◌&&◌, not, true, false};
 ghost use Rattle.std.proofs.Common.{rules};
 ghost use Rattle.std.specs.Cmp.Rules.{comparing};
 ghost use Rattle.std.specs.List.{list_any};
@@ -109,14 +109,15 @@ impl Model for Name {
     ghost Value = { Parts };
 
     ghost view = { λ name. record {
-        account = string_bytes name.account;
-        container = string_bytes name.container;
-        object = string_bytes name.object
+      account = string_bytes name.account;
+      container = string_bytes name.container;
+      object = string_bytes name.object;
     } };
 }
 
 impl Name {
-    /// The name of these three parts, or the first fault. It answers `NoMemory` only for want of memory.
+    /// The name of these three parts, or the first fault. It takes memory, and may answer `NoMemory`, only
+    /// where there is no fault.
     pub fn make(
         alloc: Global,
         account: &[u8],
@@ -127,6 +128,7 @@ impl Name {
         ensures parts { IfOk result (λ name. name ≡ record { account = account.now; container = container.now; object = object.now }) }
         ensures fault { IfErr result (λ fault. (fault ≡ NameFault.NoMemory)
             ⊎ (name_fault (record { account = account.now; container = container.now; object = object.now }) ≡ Some fault)) }
+        ensures refused { IfSome (name_fault (record { account = account.now; container = container.now; object = object.now })) (λ fault. result ≡ Err fault) }
     {
         let account = Part::Account.read(account)?;
         let container = Part::Container.read(container)?;

@@ -1,0 +1,116 @@
+//! Stamps, hex texts, names and bytes.
+
+use super::NameFault::{Empty, NotUtf8, Nul, Slash, TooLong};
+use super::Part::{Account, Container, Object};
+use super::*;
+use std::test::Fail;
+
+#[test]
+fn prints_stamps(rt: HostRuntime) -> Result<(), Fail> {
+    let cases = [
+        (0, "0000000000.00000"),
+        (100_000_000_000_000, "1000000000.00000"),
+        (123_456_789_012_345, "1234567890.12345"),
+        (999_999_999_999_999, "9999999999.99999"),
+    ];
+    for (units, want) in cases {
+        let stamp = Stamp::make(units).ok_or("too many units")?;
+        assert_eq!(rt; stamp.units(), units);
+        assert_eq!(rt; stamp.print().as_slice(), want.as_bytes(), "at {units}");
+        assert_eq!(rt;
+            format!(in rt.alloc(); "{stamp}")?.as_str(),
+            want,
+            "at {units}"
+        );
+    }
+    assert_eq!(rt; Stamp::make(1_000_000_000_000_000), None);
+    Ok(())
+}
+
+#[test]
+fn reads_hex_of_either_case(rt: HostRuntime) -> Result<(), Fail> {
+    let alloc = rt.alloc();
+    for (text, want) in [("-", ""), ("616263", "abc"), ("6A6b", "jk")] {
+        let bytes = read_hex(alloc, text.as_bytes())?;
+        assert_eq!(rt; bytes.as_slice(), want.as_bytes(), "at {text}");
+    }
+    for text in ["", "6", "6g", "--", "616"] {
+        let fault = read_hex(alloc, text.as_bytes()).err();
+        assert_eq!(rt; fault, Some(HexFault::Bad), "at {text}");
+    }
+    Ok(())
+}
+
+#[test]
+fn prints_hex_in_lower_case(rt: HostRuntime) -> Result<(), Fail> {
+    let alloc = rt.alloc();
+    let none = print_hex(alloc, &[])?;
+    assert_eq!(rt; none.as_slice(), b"-".as_slice());
+    let text = print_hex(alloc, &[0x00, 0xff, 0x61])?;
+    assert_eq!(rt; text.as_slice(), b"00ff61".as_slice());
+    Ok(())
+}
+
+#[test]
+fn names_the_first_fault(rt: HostRuntime) {
+    let long = [b'x'; 1_025];
+    let cases: [(&[u8], &[u8], &[u8], Option<NameFault>); 14] = [
+        (b"a", b"c", b"o", None),
+        (b"a", b"c", b"/o//p/", None),
+        (&long[..256], &long[..256], &long[..1_024], None),
+        (b"", b"c", b"o", Some(Empty(Account))),
+        (b"a", b"", b"o", Some(Empty(Container))),
+        (b"a", b"c", b"", Some(Empty(Object))),
+        (&long[..257], b"c", b"o", Some(TooLong(Account, 257))),
+        (b"a", &long[..257], b"o", Some(TooLong(Container, 257))),
+        (b"a", b"c", &long, Some(TooLong(Object, 1_025))),
+        (b"a", b"\xff", b"o", Some(NotUtf8(Container))),
+        (b"a", b"c", b"o\0", Some(Nul(Object))),
+        (b"a/b", b"c", b"o", Some(Slash(Account))),
+        // The first fault of the first part that has one.
+        (b"a", b"/\0", b"", Some(Nul(Container))),
+        (b"/", b"", b"\xff", Some(Slash(Account))),
+    ];
+    for (account, container, object, want) in cases {
+        let fault = Name::make(rt.alloc(), account, container, object).err();
+        assert_eq!(rt; fault, want);
+    }
+}
+
+#[test]
+fn compares_each_part_of_a_name(rt: HostRuntime) -> Result<(), Fail> {
+    let alloc = rt.alloc();
+    let name = Name::make(alloc, b"a", b"bc", b"o")?;
+    assert_eq!(rt; name.clone()?, name);
+    assert_eq!(rt; Name::make(alloc, b"a", b"bc", b"o")?, name);
+    for (account, container, object) in [
+        ("ab", "c", "o"),
+        ("b", "bc", "o"),
+        ("a", "bd", "o"),
+        ("a", "bc", "p"),
+    ] {
+        let other = Name::make(
+            alloc,
+            account.as_bytes(),
+            container.as_bytes(),
+            object.as_bytes(),
+        )?;
+        assert_ne!(rt; other, name);
+    }
+    Ok(())
+}
+
+#[test]
+fn keeps_bytes(rt: HostRuntime) -> Result<(), Fail> {
+    let alloc = rt.alloc();
+    let mut bytes = Bytes::new(alloc);
+    assert!(rt; bytes.is_empty());
+    bytes.extend_from_slice(b"one ")?;
+    bytes.extend_from_slice(b"two")?;
+    assert_eq!(rt; bytes.len(), 7);
+    assert_eq!(rt; bytes, Bytes::from_slice(alloc, b"one two")?);
+    assert_ne!(rt; bytes, Bytes::from(b"one".to_vec(alloc)?));
+    let copy = bytes.clone()?;
+    assert_eq!(rt; copy.into_vec().as_slice(), bytes.as_slice());
+    Ok(())
+}
