@@ -4,6 +4,8 @@
 
 mod code;
 mod gather;
+mod laws;
 
 pub use crate::code::Code;
 pub use crate::gather::Gather;
+pub use crate::laws::any_rows_law;

@@ -1,0 +1,4 @@
+pub mod FieldAlgebra
+pub mod ColumnSums
+pub mod CauchyElimination
+pub mod Independence
