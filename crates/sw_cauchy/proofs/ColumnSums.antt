@@ -1,10 +1,11 @@
 -- Lists in which no number stands twice, and sums over them.
-use Rattle.std.proofs.Common.{◌≡◌, ◌⊎◌, ℕ, zero, suc, ◌<◌, List, [], ◌∷◌, length, refl, sym, ap, ap₂, ◌∙◌, inl, inr, arith, bit_xor}
+use Rattle.std.proofs.Common.{◌≡◌, ◌≢◌, ◌⊎◌, ℕ, zero, suc, ◌<◌, List, [], ◌∷◌, length, refl, sym, ap, ap₂, subst, ◌∙◌, inl, inr, arith, bit_xor}
 use Rattle.std.proofs.lemmas.Bool.{cases_eq}
-use lib.Bits.{xor_assoc, xor_comm}
+use lib.Bits.{xor_assoc, xor_comm, xor_zero_r}
 use Rattle.sw_gf256.specs.Field.{product}
 use Rattle.sw_gf256.proofs.Linear.{xor_swap}
 use Rattle.sw_gf256.proofs.FieldLaws.{product_xor, product_zero}
+use Rattle.sw_cauchy.specs.Matrix.{row_sum}
 use Rattle.sw_cauchy.proofs.FieldAlgebra.{xor_byte}
 
 -- ---- lists of numbers
@@ -110,3 +111,20 @@ sum_left_out {x = x} (later {y = y} {zs = zs} r) f =
     ap (bit_xor (f y)) (sum_left_out r f)
     ∙ sym (xor_assoc (f y) (f x) (sum_over zs f)) ∙ ap (λ n. bit_xor n (sum_over zs f)) (xor_comm (f y) (f x))
     ∙ xor_assoc (f x) (f y) (sum_over zs f)
+
+-- a sum of which only one term is not zero
+pub sum_only : (xs : List ℕ) (i : ℕ) (f : ℕ → ℕ) → Differ xs → Has xs i → ((x : ℕ) → Has xs x → x ≢ i → f x ≡ 0) → sum_over xs f ≡ f i
+sum_only xs i f differ has none =
+    let out = leave_out xs i has in
+    sum_left_out out.1 f
+    ∙ ap (bit_xor (f i))
+    (sum_zero out.0 f (λ x k. none x (left_out_from out.1 x k) (λ e. (differ_left_out out.1 differ).0 (subst (Has out.0) e k))))
+    ∙ xor_zero_r (f i)
+
+-- the sum of a row's products with a column is the sum over all places
+pub row_sum-over : (k : ℕ) (row column : ℕ → ℕ) → row_sum k row column ≡ sum_over (below k) (λ x. product (row x) (column x))
+unfolding row_sum
+row_sum-over zero row column = refl
+row_sum-over (suc k) row column =
+    ap (λ n. bit_xor n (product (row k) (column k))) (row_sum-over k row column)
+    ∙ xor_comm (sum_over (below k) (λ x. product (row x) (column x))) (product (row k) (column k))

@@ -89,3 +89,9 @@ eliminated a b c v apos bpos ha hb hc hv =
     side : (x : ℕ) → 0 < x → x < 256 → product (bit_xor x c) (product (inverse x) v) ≡ bit_xor v (product c (product (inverse x) v))
     side x pos hx =
         xor_product x c (product (inverse x) v) ∙ ap (λ y. bit_xor y (product c (product (inverse x) v))) (product-cancel x v pos hx hv)
+
+-- an inverse is not 0
+pub inverse-pos : (a : ℕ) → 0 < a → a < 256 → 0 < inverse a
+inverse-pos a pos h =
+    let some : inverse a ≢ 0 = (λ none. omega (arith, sym (product_inverse a pos h) ∙ ap (product a) none ∙ product_zero a)) in
+    omega arith

@@ -5,13 +5,13 @@ use Rattle.std.proofs.lemmas.Bool.{cases_lt, lt-ltb, le-ltb, eq-eqb, ne_eqb}
 use Rattle.std.proofs.lemmas.List.{get_or_append_left, get_or-append-add, get_or_past}
 use Rattle.std.proofs.lemmas.List.FromFn.{length-map-range_with_len, get_or-map-range_with_len}
 use Rattle.std.specs.List.{All, AllPairs, range_with_len}
-use lib.Bits.{xor_comm, xor_zero_l, xor_zero_r}
+use lib.Bits.{xor_zero_l}
 use Rattle.sw_gf256.specs.Field.{product, inverse}
 use Rattle.sw_gf256.proofs.FieldLaws.{zero_product, product_zero, one_product}
 use Rattle.sw_cauchy.specs.Matrix.{entry, row_sum}
 use Rattle.sw_cauchy.specs.Linear.{matrix_entry, AreIndependent}
 use Rattle.sw_cauchy.specs.Rows.{row_matrix}
-use Rattle.sw_cauchy.proofs.ColumnSums.{Has, Differ, LeftOut, leave_out, length-left_out, left_out_cases, left_out_from, differ_left_out, below, length-below, Has-below, below-lt, differ_below, sum_over, sum_same, sum_zero, sum_left_out}
+use Rattle.sw_cauchy.proofs.ColumnSums.{Has, Differ, LeftOut, leave_out, length-left_out, left_out_cases, left_out_from, differ_left_out, below, length-below, Has-below, below-lt, differ_below, sum_over, sum_same, sum_left_out, sum_only, row_sum-over}
 use Rattle.sw_cauchy.proofs.CauchyElimination.{HasZeroSums, cauchy_independent}
 
 -- ---- the entries of the generator matrix
@@ -48,12 +48,11 @@ pub record IsReduced (k : ℕ) (is ps js : List ℕ) (v : ℕ → ℕ) : Type 0 
 
 module _ (k : ℕ) (v : ℕ → ℕ) (small : k ≤ 256) (bytes : (x : ℕ) → v x < 256) where
   -- a unit row whose sum is zero tells that the value at its column is zero
-  unit_value : (i : ℕ) (js zs : List ℕ) → i < k → Differ js → LeftOut js i zs → generator_sum k js v i ≡ 0 → v i ≡ 0
-  unit_value i js zs h differ r none =
+  unit_value : (i : ℕ) (js : List ℕ) → i < k → Differ js → Has js i → generator_sum k js v i ≡ 0 → v i ≡ 0
+  unit_value i js h differ has none =
       sym (one_product (v i) (bytes i)) ∙ ap (λ n. product n (v i)) (sym (unit_diagonal k i h))
-      ∙ sym (xor_zero_r (product (entry k i i) (v i)))
-      ∙ ap (bit_xor (product (entry k i i) (v i))) (sym (sum_zero zs (λ x. product (entry k i x) (v x)) (λ x kx. ap (λ n. product n (v x)) (unit_entry k i x h (λ e. (differ_left_out r differ).0 (subst (Has zs) e kx))) ∙ zero_product (v x))))
-      ∙ sym (sum_left_out r (λ x. product (entry k i x) (v x))) ∙ none
+      ∙ sym (sum_only js i (λ x. product (entry k i x) (v x)) differ has (λ x kx other. ap (λ n. product n (v x)) (unit_entry k i x h other) ∙ zero_product (v x)))
+      ∙ none
 
   -- a column whose value is zero adds nothing
   without_zero : (r i : ℕ) (js zs : List ℕ) → LeftOut js i zs → v i ≡ 0 → generator_sum k js v r ≡ 0 → generator_sum k zs v r ≡ 0
@@ -115,7 +114,7 @@ module _ (k : ℕ) (v : ℕ → ℕ) (small : k ≤ 256) (bytes : (x : ℕ) → 
       elim (cases_lt i k) [
         | inl low ↦
             let out = leave_out js i (h.unit_column i (inl refl) low) in
-            let none = unit_value i js out.0 low h.columns_differ out.1 (h.zero_sum i (inl refl)) in
+            let none = unit_value i js low h.columns_differ (h.unit_column i (inl refl) low) (h.zero_sum i (inl refl)) in
             elim (left_out_cases out.1 x kx) [
               | inl same ↦ ap v (sym same) ∙ none
               | inr stays ↦
@@ -151,13 +150,6 @@ entry_at k (i ∷ is) (suc t) j h low =
     let row = map (entry k i) (range_with_len 0 k) in
     let place : suc t * k + j ≡ length row + (t * k + j) = omega (arith, length-map-range_with_len (entry k i) 0 k) in
     rw place (get_or-append-add row (row_matrix k is) (t * k + j) 0 ∙ entry_at k is t j (omega arith) low)
-
--- a row's sum is the sum over all columns
-row_sum-over : (k : ℕ) (row column : ℕ → ℕ) → row_sum k row column ≡ sum_over (below k) (λ x. product (row x) (column x))
-unfolding row_sum
-row_sum-over zero row column = refl
-row_sum-over (suc k) row column =
-    ap (λ n. bit_xor n (product (row k) (column k))) (row_sum-over k row column) ∙ xor_comm (sum_over (below k) (λ x. product (row x) (column x))) (product (row k) (column k))
 
 -- before any row was looked at
 nothing_met : (k : ℕ) (indices : List ℕ) (v : ℕ → ℕ) → length indices ≡ k → All (λ i. i < 256) indices → AllPairs (λ i j. i ≢ j) indices

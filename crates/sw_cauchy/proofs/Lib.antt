@@ -2,3 +2,8 @@ pub mod FieldAlgebra
 pub mod ColumnSums
 pub mod CauchyElimination
 pub mod Independence
+pub mod RowSums
+pub mod RowOperations
+pub mod Pivot
+pub mod MatrixRows
+pub mod UnitMatrix

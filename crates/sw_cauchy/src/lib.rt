@@ -4,6 +4,7 @@
 
 mod code;
 mod gather;
+mod inversion;
 mod laws;
 
 pub use crate::code::Code;
