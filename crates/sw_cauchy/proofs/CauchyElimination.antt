@@ -27,18 +27,23 @@ pub record HasZeroSums (ps js : List ℕ) (v : ℕ → ℕ) : Type 0 where
   pub zero_sum : (p : ℕ) → Has ps p → cauchy_sum js v p ≡ 0
 
 module _ (p₁ j₁ : ℕ) (ps js : List ℕ) (v : ℕ → ℕ) (h : HasZeroSums (p₁ ∷ ps) (j₁ ∷ js) v) where
+  -- a value over p + x is an element
   over_lt : (p x : ℕ) → Has js x → product (inverse (bit_xor p x)) (v x) < 256
   over_lt p x k = product_lt (inverse (bit_xor p x)) (v x) (inverse_lt (bit_xor p x)) (h.value_lt x (inr k))
 
+  -- so is the sum of a row's and a column's number
   place_lt : (p x : ℕ) → Has (p₁ ∷ ps) p → Has (j₁ ∷ js) x → bit_xor p x < 256
   place_lt p x kp kx = xor_byte p x (h.row_lt p kp) (h.column_lt x kx)
 
+  -- which is not 0
   place_pos : (p x : ℕ) → Has (p₁ ∷ ps) p → Has (j₁ ∷ js) x → 0 < bit_xor p x
   place_pos p x kp kx = pos-xor p x (h.apart p x kp kx)
 
+  -- the sum of two columns' numbers is an element
   ahead_lt : (x : ℕ) → Has js x → bit_xor j₁ x < 256
   ahead_lt x k = xor_byte j₁ x (h.column_lt j₁ (inl refl)) (h.column_lt x (inr k))
 
+  -- so are the values after the elimination
   next_lt : (x : ℕ) → Has js x → next_values p₁ j₁ v x < 256
   unfolding next_values
   next_lt x k = product_lt (bit_xor j₁ x) (product (inverse (bit_xor p₁ x)) (v x)) (ahead_lt x k) (over_lt p₁ x k)
@@ -74,6 +79,7 @@ module _ (p₁ j₁ : ℕ) (ps js : List ℕ) (v : ℕ → ℕ) (h : HasZeroSums
       (sum_product js (bit_xor p₁ j₁) (λ x. product (inverse (bit_xor p₁ x)) (v x)) ∙ first_value p₁ (inl refl))
       ∙ xor_self (v j₁))
 
+  -- what the elimination leaves, without the first row and column
   smaller : HasZeroSums ps js (next_values p₁ j₁ v)
   smaller = record {
     rows_differ = h.rows_differ.1;
@@ -93,6 +99,7 @@ module _ (p₁ j₁ : ℕ) (ps js : List ℕ) (v : ℕ → ℕ) (h : HasZeroSums
       zero_from_inverse (bit_xor p₁ x) (v x) (place_pos p₁ x (inl refl) (inr k)) (place_lt p₁ x (inl refl) (inr k)) (h.value_lt x (inr k))
       (zero_from_product (bit_xor j₁ x) (product (inverse (bit_xor p₁ x)) (v x)) (pos-xor j₁ x other) (ahead_lt x k) (over_lt p₁ x k) (none x k))
 
+  -- then the first value is zero too
   first_zero : ((x : ℕ) → Has js x → v x ≡ 0) → v j₁ ≡ 0
   first_zero none =
       sym (first_value p₁ (inl refl))

@@ -8,6 +8,7 @@ use Rattle.sw_gf256.proofs.FieldLaws.{product_assoc, product_comm, one_product, 
 
 -- ---- sums
 
+-- the sum of two elements is one
 pub xor_byte : (a b : ℕ) → a < 256 → b < 256 → bit_xor a b < 256
 xor_byte a b h k = xor_lt 8 a b h k
 
@@ -41,12 +42,12 @@ pub product-cancel : (a b : ℕ) → 0 < a → a < 256 → b < 256 → product a
 product-cancel a b pos ha hb =
     sym (product_assoc a (inverse a) b ha (inverse_lt a) hb) ∙ ap (λ x. product x b) (product_inverse a pos ha) ∙ one_product b hb
 
--- a product of 0 and an inverse that is no inverse of 0 has the other factor 0
+-- a product with an inverse is 0 only where the other factor is
 pub zero_from_inverse : (a b : ℕ) → 0 < a → a < 256 → b < 256 → product (inverse a) b ≡ 0 → b ≡ 0
 zero_from_inverse a b pos ha hb none =
     sym (product-cancel a b pos ha hb) ∙ ap (product a) none ∙ product_zero a
 
--- a product that is 0 by a factor that is not 0
+-- a product with a factor other than 0 is 0 only where the other factor is
 pub zero_from_product : (a b : ℕ) → 0 < a → a < 256 → b < 256 → product a b ≡ 0 → b ≡ 0
 zero_from_product a b pos ha hb none =
     sym (product-cancel a b pos ha hb)

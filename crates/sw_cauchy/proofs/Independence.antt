@@ -16,12 +16,15 @@ use Rattle.sw_cauchy.proofs.CauchyElimination.{HasZeroSums, cauchy_independent}
 
 -- ---- the entries of the generator matrix
 
+-- a unit row has zeros beside the diagonal
 unit_entry : (k i j : ℕ) → i < k → j ≢ i → entry k i j ≡ 0
 unit_entry k i j h other = rw (lt-ltb i k h, ne_eqb i j (λ e. other (sym e)))
 
+-- and a one on it
 unit_diagonal : (k i : ℕ) → i < k → entry k i i ≡ 1
 unit_diagonal k i h = rw (lt-ltb i k h, eq-eqb i i refl)
 
+-- the rows below are those of a Cauchy matrix
 parity_entry : (k p j : ℕ) → k ≤ p → entry k p j ≡ inverse (bit_xor p j)
 parity_entry k p j h = rw (le-ltb p k h)
 
@@ -108,6 +111,7 @@ module _ (k : ℕ) (v : ℕ → ℕ) (small : k ≤ 256) (bytes : (x : ℕ) → 
     zero_sum = λ p kp. sum_same js _ _ (λ x kx. ap (λ n. product n (v x)) (sym (parity_entry k p x (h.parity p kp)))) ∙ h.parity_zero_sum p kp;
   }
 
+  -- row by row: every value is zero
   all_zero : (is ps js : List ℕ) → length is + length ps ≡ length js → IsReduced k is ps js v → (x : ℕ) → Has js x → v x ≡ 0
   all_zero [] ps js e h x kx = cauchy_independent js ps v (omega arith) (only_parity ps js h) x kx
   all_zero (i ∷ is) ps js e h x kx =
@@ -131,6 +135,7 @@ place_of [] x h = absurd h
 place_of (y ∷ ys) x (inl e) = (0, omega arith, e)
 place_of (y ∷ ys) x (inr h) = let rest = place_of ys x h in (suc rest.0, omega (arith, rest.1), rest.2)
 
+-- indices of which no two are equal
 differ_from_pairs : (xs : List ℕ) → AllPairs (λ i j. i ≢ j) xs → Differ xs
 differ_from_pairs [] h = tt
 differ_from_pairs (x ∷ xs) h = (
@@ -172,6 +177,7 @@ nothing_met k indices v long bytes differ none = record {
   parity_zero_sum = λ p kp. absurd kp;
 }
 
+-- any k rows, no two of them the same
 pub any_rows_independent : (k : ℕ) (indices : List ℕ) → k ≤ 256 → length indices ≡ k → All (λ i. i < 256) indices → AllPairs (λ i j. i ≢ j) indices → AreIndependent k (row_matrix k indices)
 any_rows_independent k indices small long bytes differ column column_bytes column_long none j =
     elim (cases_lt j k) [

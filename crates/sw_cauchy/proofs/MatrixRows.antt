@@ -10,12 +10,14 @@ use Rattle.sw_cauchy.specs.Elimination.{IsRowAdded, IsRowScaled}
 
 -- ---- a multiple of a list, added element by element
 
+-- it is as long as the first list
 length-plus_multiple : (xs ys : List ℕ) (c : ℕ) → length (plus_multiple xs ys c) ≡ length xs
 unfolding plus_multiple
 length-plus_multiple [] ys c = refl
 length-plus_multiple (x ∷ xs) [] c = refl
 length-plus_multiple (x ∷ xs) (y ∷ ys) c = ap suc (length-plus_multiple xs ys c)
 
+-- one of its elements
 get_or-plus_multiple : (xs ys : List ℕ) (c j : ℕ) → j < length xs → j < length ys → get_or (plus_multiple xs ys c) j 0 ≡ bit_xor (get_or xs j 0) (product c (get_or ys j 0))
 unfolding plus_multiple
 get_or-plus_multiple [] ys c j h k = absurd (omega arith)
@@ -25,11 +27,13 @@ get_or-plus_multiple (x ∷ xs) (y ∷ ys) c (suc j) h k = get_or-plus_multiple 
 
 -- ---- the entries of a matrix that is given as a row, and what stands before and after it
 
+-- an entry of the row
 entry_in : (k row j : ℕ) (before items after : List ℕ) → length before ≡ row * k → j < length items → matrix_entry k (before ++ (items ++ after)) row j ≡ get_or items j 0
 entry_in k row j before items after place within =
     ap (λ n. get_or (before ++ (items ++ after)) (n + j) 0) (sym place)
     ∙ get_or-append-add before (items ++ after) j 0 ∙ get_or_append_left items after 0 j within
 
+-- an entry of another row does not depend on it
 entry_beside : (k row i j : ℕ) (before items new after : List ℕ) → length before ≡ row * k → length items ≡ k → length new ≡ k → j < k → i ≢ row
     → matrix_entry k (before ++ (new ++ after)) i j ≡ matrix_entry k (before ++ (items ++ after)) i j
 entry_beside k row i j before items new after place long new_long inside other =

@@ -22,18 +22,22 @@ null_value k matrix column t = cond (t == column) 1 (cond (nat_lt t column) (mat
 
 module _ (k column : ℕ) (matrix : List ℕ) (inside : column < k) (bytes : IsBytes matrix) (unit : HasUnitColumns k matrix column)
     (none : (i : ℕ) → column ≤ i → i < k → matrix_entry k matrix i column ≡ 0) where
+  -- the value on the diagonal
   value_on : null_value k matrix column column ≡ 1
   unfolding null_value
   value_on = rw (eq-eqb column column refl) refl
 
+  -- and above it
   value_above : (t : ℕ) → t < column → null_value k matrix column t ≡ matrix_entry k matrix t column
   unfolding null_value
   value_above t h = rw (ne_eqb t column (λ e. omega arith), lt-ltb t column h) refl
 
+  -- and below it
   value_below : (t : ℕ) → column < t → null_value k matrix column t ≡ 0
   unfolding null_value
   value_below t h = rw (ne_eqb t column (λ e. omega arith), le-ltb t column (omega arith)) refl
 
+  -- each is an element
   value_lt : (t : ℕ) → null_value k matrix column t < 256
   unfolding null_value
   value_lt t =
@@ -60,10 +64,12 @@ module _ (k column : ℕ) (matrix : List ℕ) (inside : column < k) (bytes : IsB
         | inr high ↦ term_beyond i t (omega arith)
       ]
 
+  -- in the column there is the entry itself
   term_at_column : (i : ℕ) → term i column ≡ matrix_entry k matrix i column
   unfolding term
   term_at_column i = ap (product (matrix_entry k matrix i column)) value_on ∙ product_one (matrix_entry k matrix i column) (bytes _)
 
+  -- on the diagonal, left of the column, there is that entry once more
   term_on_diagonal : (i : ℕ) → i < column → term i i ≡ matrix_entry k matrix i column
   unfolding term
   term_on_diagonal i low =
@@ -103,17 +109,21 @@ module _ (k column : ℕ) (matrix : List ℕ) (inside : column < k) (bytes : IsB
             | inr off ↦ term_beside i t within (apart t kt) off
           ])
 
+  -- the column as a list
   null_column : List ℕ
   null_column = map (null_value k matrix column) (range_with_len 0 k)
 
+  -- its values
   null_at : (t : ℕ) → t < k → get_or null_column t 0 ≡ null_value k matrix column t
   unfolding null_column
   null_at t h = get_or-map-range_with_len (null_value k matrix column) 0 k t t 0 h (omega arith)
 
+  -- there are k of them
   null_length : length null_column ≡ k
   unfolding null_column
   null_length = length-map-range_with_len (null_value k matrix column) 0 k
 
+  -- and each is a byte
   null_bytes : IsBytes null_column
   null_bytes t =
       elim (cases_lt t k) [
@@ -121,6 +131,7 @@ module _ (k column : ℕ) (matrix : List ℕ) (inside : column < k) (bytes : IsB
         | inr high ↦ rw (get_or_past null_column t 0 (omega (arith, null_length))) (omega arith)
       ]
 
+  -- which independent rows don't allow
   pub pivot_exists : AreIndependent k matrix → ⊥
   pivot_exists independent =
       let zero = independent null_column null_bytes null_length (λ i within. row_sum-same k _ _ (λ t. get_or null_column t 0) (null_value k matrix column) (λ t kt. refl) null_at ∙ null_sum i within) column in

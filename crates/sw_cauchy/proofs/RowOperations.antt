@@ -14,6 +14,7 @@ use Rattle.sw_cauchy.proofs.RowSums.{row_sum-same, row_sum-lt, row_sum-scaled, r
 
 -- ---- none, and one after the other
 
+-- no operation
 pub Operation-none : (k column : ℕ) (matrix companion : List ℕ) → IsRowOperation k column matrix companion matrix companion
 Operation-none k column matrix companion = record {
   product_kept = λ origin bytes h. h;
@@ -21,6 +22,7 @@ Operation-none k column matrix companion = record {
   unit_columns_kept = λ h. h;
 }
 
+-- two operations
 pub Operation-after : (k column : ℕ) (a b c d e f : List ℕ) → IsRowOperation k column a b c d → IsRowOperation k column c d e f → IsRowOperation k column a b e f
 Operation-after k column a b c d e f first next = record {
   product_kept = λ origin bytes h. next.product_kept origin bytes (first.product_kept origin bytes h);
@@ -40,6 +42,7 @@ module _ (k : ℕ) (old new : List ℕ) (target source factor : ℕ) (target_in 
   sum_other : (i : ℕ) (c : ℕ → ℕ) → i < k → i ≢ target → row_sum k (matrix_entry k new i) c ≡ row_sum k (matrix_entry k old i) c
   sum_other i c within other = row_sum-same k _ _ c c (λ t kt. h.others i t within kt other) (λ t kt. refl)
 
+  -- independent rows stay so where the row that is added is another one
   independent_added : target ≢ source → AreIndependent k old → AreIndependent k new
   independent_added apart independent column column_bytes long none =
       independent column column_bytes long (λ i within. elim (cases_eq i target) [
@@ -61,6 +64,7 @@ module _ (k : ℕ) (old new : List ℕ) (target source factor : ℕ) (target_in 
         | inr other ↦ h.others i j within inside other
       ]
 
+  -- so columns of the unit matrix stay, left of the place of the row that is added
   unit_columns_added : (count : ℕ) → count ≤ source → HasUnitColumns k old count → HasUnitColumns k new count
   unit_columns_added count behind unit i j within before =
       entry_kept i j within (omega arith) (unit source j source_in before ∙ rw (ne_eqb source j (λ e. omega arith)) refl) ∙ unit i j within before
@@ -68,6 +72,7 @@ module _ (k : ℕ) (old new : List ℕ) (target source factor : ℕ) (target_in 
 -- the same row added to a matrix and to its companion
 module _ (k : ℕ) (old new old_companion new_companion : List ℕ) (target source factor : ℕ) (target_in : target < k) (source_in : source < k) (low : factor < 256)
     (companion_bytes : IsBytes old_companion) (h : IsRowAdded k old new target source factor) (in_companion : IsRowAdded k old_companion new_companion target source factor) where
+  -- the companion times a matrix stays the matrix beside it
   product_added : (origin : List ℕ) → IsBytes origin → IsMatrixProduct k old_companion origin old → IsMatrixProduct k new_companion origin new
   product_added origin bytes result i j within inside =
       elim (cases_eq i target) [
@@ -80,6 +85,7 @@ module _ (k : ℕ) (old new old_companion new_companion : List ℕ) (target sour
             ∙ result i j within inside ∙ sym (h.others i j within inside other)
       ]
 
+  -- so it is an operation that the elimination may make
   pub Operation-added : (column : ℕ) → IsBytes old → target ≢ source → column ≤ source → IsRowOperation k column old old_companion new new_companion
   Operation-added column bytes apart behind = record {
     product_kept = product_added;
@@ -98,6 +104,7 @@ Added-from_scaled k old new row factor bytes h = record {
   others = h.others;
 }
 
+-- independent rows stay so where the factor is not 0
 independent_scaled : (k : ℕ) (old new : List ℕ) (row factor : ℕ) → row < k → 0 < factor → factor < 256 → IsBytes old → IsRowScaled k old new row factor → AreIndependent k old → AreIndependent k new
 independent_scaled k old new row factor row_in pos low bytes h independent column column_bytes long none =
     independent column column_bytes long (λ i within. elim (cases_eq i row) [
@@ -109,6 +116,7 @@ independent_scaled k old new row factor row_in pos low bytes h independent colum
           row_sum-same k _ _ (λ t. get_or column t 0) (λ t. get_or column t 0) (λ t kt. sym (h.others i t within kt other)) (λ t kt. refl) ∙ none i within
     ])
 
+-- so it is an operation that the elimination may make, below the columns before
 pub Operation-scaled : (k column : ℕ) (old new old_companion new_companion : List ℕ) (row factor : ℕ) → row < k → column ≤ row → 0 < factor → factor < 256 → IsBytes old → IsBytes old_companion
     → IsRowScaled k old new row factor → IsRowScaled k old_companion new_companion row factor → IsRowOperation k column old old_companion new new_companion
 Operation-scaled k column old new old_companion new_companion row factor row_in behind pos low bytes companion_bytes h in_companion = record {

@@ -13,12 +13,14 @@ pub record HasUnitRows (k : ℕ) (matrix : List ℕ) (count : ℕ) : Type 0 wher
   pub diagonal : (i : ℕ) → i < count → matrix_entry k matrix i i ≡ 1
   pub others : (i j : ℕ) → i < k → j < k → i ≢ j → matrix_entry k matrix i j ≡ 0
 
+-- a matrix of zeros
 pub UnitRows-none : (k : ℕ) → HasUnitRows k (replicate (k * k) 0) 0
 UnitRows-none k = record {
   diagonal = λ i h. absurd (omega arith);
   others = λ i j hi hj other. get_or-replicate (k * k) (i * k + j) 0 0 (mul-add-lt i k j k hi hj);
 }
 
+-- one more row
 pub UnitRows-more : (k : ℕ) (matrix : List ℕ) (row : ℕ) → row < k → length matrix ≡ k * k → HasUnitRows k matrix row → HasUnitRows k (set matrix (row * k + row) 1) (row + 1)
 UnitRows-more k matrix row within square h = record {
   diagonal = λ i before.
@@ -35,6 +37,7 @@ UnitRows-more k matrix row within square h = record {
       ∙ h.others i j hi hj other;
 }
 
+-- all rows
 pub UnitRows-all : (k : ℕ) (matrix : List ℕ) → HasUnitRows k matrix k → HasUnitColumns k matrix k
 UnitRows-all k matrix h i j hi hj =
     elim (cases_eq i j) [
