@@ -144,17 +144,17 @@ differ_from_pairs (x ∷ xs) h = (
 )
 
 -- the entry of the matrix of these rows
-entry_at : (k : ℕ) (indices : List ℕ) (t j : ℕ) → t < length indices → j < k → matrix_entry k (row_matrix k indices) t j ≡ entry k (get_or indices t 0) j
+pub matrix_entry-row_matrix : (k : ℕ) (indices : List ℕ) (t j : ℕ) → t < length indices → j < k → matrix_entry k (row_matrix k indices) t j ≡ entry k (get_or indices t 0) j
 unfolding row_matrix
-entry_at k [] t j h low = absurd (omega arith)
-entry_at k (i ∷ is) zero j h low =
+matrix_entry-row_matrix k [] t j h low = absurd (omega arith)
+matrix_entry-row_matrix k (i ∷ is) zero j h low =
     let place : 0 * k + j ≡ j = omega arith in
     let long = length-map-range_with_len (entry k i) 0 k in
     rw place (get_or_append_left (map (entry k i) (range_with_len 0 k)) (row_matrix k is) 0 j (omega arith) ∙ get_or-map-range_with_len (entry k i) 0 k j j 0 low (omega arith))
-entry_at k (i ∷ is) (suc t) j h low =
+matrix_entry-row_matrix k (i ∷ is) (suc t) j h low =
     let row = map (entry k i) (range_with_len 0 k) in
     let place : suc t * k + j ≡ length row + (t * k + j) = omega (arith, length-map-range_with_len (entry k i) 0 k) in
-    rw place (get_or-append-add row (row_matrix k is) (t * k + j) 0 ∙ entry_at k is t j (omega arith) low)
+    rw place (get_or-append-add row (row_matrix k is) (t * k + j) 0 ∙ matrix_entry-row_matrix k is t j (omega arith) low)
 
 -- before any row was looked at
 nothing_met : (k : ℕ) (indices : List ℕ) (v : ℕ → ℕ) → length indices ≡ k → All (λ i. i < 256) indices → AllPairs (λ i j. i ≢ j) indices
@@ -172,7 +172,7 @@ nothing_met k indices v long bytes differ none = record {
   zero_sum = λ i ki.
       let place = place_of indices i ki in
       let within : place.0 < k = omega (arith, place.1) in
-      sum_same (below k) _ _ (λ x kx. ap (λ n. product n (v x)) (ap (λ r. entry k r x) (sym place.2) ∙ sym (entry_at k indices place.0 x place.1 (below-lt k x kx))))
+      sum_same (below k) _ _ (λ x kx. ap (λ n. product n (v x)) (ap (λ r. entry k r x) (sym place.2) ∙ sym (matrix_entry-row_matrix k indices place.0 x place.1 (below-lt k x kx))))
       ∙ sym (row_sum-over k (matrix_entry k (row_matrix k indices) place.0) v) ∙ none place.0 within;
   parity_zero_sum = λ p kp. absurd kp;
 }
