@@ -1,30 +1,22 @@
 -- What an inverse of the rows of the generator matrix makes of fragments.
-use Rattle.std.proofs.Common.{◌≡◌, ℕ, zero, suc, ◌+◌, ◌*◌, ◌/◌, ◌%◌, ◌<◌, ◌==◌, nat_lt, List, [], length, get_or, refl, sym, ap, ◌∙◌, inl, inr, arith, zero-add, bit_xor}
+use Rattle.std.proofs.Common.{◌≡◌, ℕ, zero, suc, ◌+◌, ◌*◌, ◌/◌, ◌%◌, ◌<◌, List, [], length, get_or, refl, sym, ap, ◌∙◌, arith, zero-add}
 use Rattle.std.specs.List.{range_with_len}
-use Rattle.std.proofs.lemmas.Bool.{cases_Bool}
 use Rattle.std.proofs.lemmas.List.{ext_get_or}
 use Rattle.std.proofs.lemmas.List.FromFn.{length-range_with_len, get_or-range_with_len}
 use Rattle.std.proofs.lemmas.Nat.{div-add-mod', div_below, mod_below}
-use Rattle.sw_gf256.proofs.FieldLaws.{inverse_lt}
 use Rattle.sw_words.specs.Bytes.{IsBytes}
 use Rattle.sw_cauchy.specs.Gather.{shares_of}
 use Rattle.sw_cauchy.specs.Linear.{matrix_entry, IsInverse}
 use Rattle.sw_cauchy.specs.Matrix.{entry, row_sum}
-use Rattle.sw_cauchy.specs.Rows.{generator_row, generator_rows, row_times, rows_times}
+use Rattle.sw_cauchy.specs.Rows.{generator_rows, row_times, rows_times}
 use Rattle.sw_cauchy.specs.Share.{Share, AreFragments}
 use Rattle.sw_cauchy.specs.Stripe.{fragment}
 use Rattle.sw_cauchy.proofs.Parts.{length-parts, get_or-part}
-use Rattle.sw_cauchy.proofs.RowSums.{row_sum-same, Undoes, undone, undone_in_row}
-use Rattle.sw_cauchy.proofs.RowTimes.{length-row_times, get_or-row_times, length-generator_row, get_or-generator_row, length-fragment, get_or-fragment}
+use Rattle.sw_cauchy.proofs.GeneratorRows.{entry-lt, matrix_entry-generator_rows}
+use Rattle.sw_cauchy.proofs.Inverses.{Undoes, undone, undone_in_row}
+use Rattle.sw_cauchy.proofs.RowSums.{row_sum-same}
+use Rattle.sw_cauchy.proofs.RowTimes.{length-row_times, get_or-row_times, length-fragment, get_or-fragment}
 use Rattle.sw_cauchy.proofs.Shares.{length-shares_of, share_index, share_byte}
-
--- an entry of the generator matrix is a byte
-entry-lt : (k i j : ℕ) → entry k i j < 256
-entry-lt k i j =
-    elim (cases_Bool (nat_lt i k)) [
-      | inl unit ↦ elim (cases_Bool (i == j)) [ inl here ↦ rw (unit, here) (omega arith) | inr away ↦ rw (unit, away) (omega arith) ]
-      | inr parity ↦ rw parity (inverse_lt (bit_xor i j))
-    ]
 
 -- what decodes the shares of some indices: an inverse of their rows
 pub record Decodes (k : ℕ) (matrix indices : List ℕ) : Type 0 where
@@ -37,7 +29,7 @@ decodes-undoes : (k : ℕ) (matrix indices : List ℕ) → Decodes k matrix indi
 decodes-undoes k matrix indices decodes = record {
   units = λ i j h l.
       row_sum-same k _ _ _ _ (λ t m. refl)
-      (λ t m. sym (get_or-part (generator_row k) k indices t j (length-generator_row k) (omega (arith, decodes.count)) l ∙ get_or-generator_row k (get_or indices t 0) j l))
+      (λ t m. sym (matrix_entry-generator_rows k indices t j (omega (arith, decodes.count)) l))
       ∙ decodes.inverse i j h l;
   inverse_bytes = λ i t. decodes.bytes (i * k + t);
   matrix_bytes = λ t j. entry-lt k (get_or indices t 0) j;

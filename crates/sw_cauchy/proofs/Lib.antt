@@ -1,6 +1,16 @@
+mod CauchyElimination
+mod ColumnSums
 mod Decoding
+mod FieldAlgebra
+mod GeneratorRows
+mod Independence
+mod Inverses
+mod MatrixRows
+mod Multiples
 mod Parts
+mod Pivot
+mod RowOperations
 mod RowSums
 mod RowTimes
 mod Shares
-mod TwoByTwo
+mod UnitMatrix

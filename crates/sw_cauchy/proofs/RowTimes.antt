@@ -1,5 +1,5 @@
 -- A row times pieces, byte by byte and piece by piece.
-use Rattle.std.proofs.Common.{◌≡◌, ℕ, zero, suc, ◌+◌, ◌*◌, ◌<◌, ◌≤◌, List, [], ◌∷◌, length, get_or, replicate, refl, sym, ap, ap₂, ◌∙◌, add-one, arith, bit_xor}
+use Rattle.std.proofs.Common.{◌≡◌, ℕ, ◌+◌, ◌*◌, ◌<◌, ◌≤◌, List, length, get_or, replicate, refl, sym, ap, ap₂, ◌∙◌, add-one, arith, bit_xor}
 use Rattle.std.specs.List.{between}
 use Rattle.std.proofs.lemmas.List.{ext_get_or, get_or-replicate, length-replicate}
 use Rattle.std.proofs.lemmas.List.Edits.{length-between, get_or-between}
@@ -8,22 +8,9 @@ use Rattle.sw_gf256.specs.Field.{product, plus_multiple}
 use Rattle.sw_cauchy.specs.Matrix.{entry, row_sum}
 use Rattle.sw_cauchy.specs.Rows.{generator_row, row_times}
 use Rattle.sw_cauchy.specs.Stripe.{fragment}
+use Rattle.sw_cauchy.proofs.GeneratorRows.{length-generator_row, get_or-generator_row}
+use Rattle.sw_cauchy.proofs.Multiples.{length-plus_multiple, get_or-plus_multiple}
 use Rattle.sw_cauchy.proofs.RowSums.{row_sum-same}
-
--- a multiple is added without a change of length
-length-plus_multiple : (xs ys : List ℕ) (c : ℕ) → length (plus_multiple xs ys c) ≡ length xs
-unfolding plus_multiple
-length-plus_multiple [] ys c = refl
-length-plus_multiple (x ∷ xs) [] c = refl
-length-plus_multiple (x ∷ xs) (y ∷ ys) c = ap suc (length-plus_multiple xs ys c)
-
--- a multiple is added at each place
-get_or-plus_multiple : (xs ys : List ℕ) (c i : ℕ) → i < length xs → length ys ≡ length xs → get_or (plus_multiple xs ys c) i 0 ≡ bit_xor (get_or xs i 0) (product c (get_or ys i 0))
-unfolding plus_multiple
-get_or-plus_multiple [] ys c i h e = absurd (omega arith)
-get_or-plus_multiple (x ∷ xs) [] c i h e = absurd (omega arith)
-get_or-plus_multiple (x ∷ xs) (y ∷ ys) c zero h e = refl
-get_or-plus_multiple (x ∷ xs) (y ∷ ys) c (suc i) h e = get_or-plus_multiple xs ys c i (omega arith) (omega arith)
 
 -- a row times pieces is as wide as they are
 pub length-row_times : (count width : ℕ) (row : ℕ → ℕ) (pieces : List ℕ) → length (row_times count width row pieces) ≡ width
@@ -71,17 +58,7 @@ row_times-more count width row pieces within =
     ∙ ap₂ bit_xor (get_or-row_times count width row pieces i below) (ap (product (row count)) (get_or-between pieces (count * width) ((count + 1) * width) i 0 (omega arith)))
     ∙ ap (λ n. row_sum n row (λ j. get_or pieces (j * width + i) 0)) (sym (add-one count)) ∙ sym (get_or-row_times (count + 1) width row pieces i below))
 
--- ---- rows of the generator matrix
-
--- a row has k entries
-pub length-generator_row : (k i : ℕ) → length (generator_row k i) ≡ k
-unfolding generator_row
-length-generator_row k i = length-map-range_with_len (entry k i) 0 k
-
--- an entry of a row
-pub get_or-generator_row : (k i j : ℕ) → j < k → get_or (generator_row k i) j 0 ≡ entry k i j
-unfolding generator_row
-get_or-generator_row k i j h = get_or-map-range_with_len (entry k i) 0 k j j 0 h (omega arith)
+-- ---- fragments
 
 -- a fragment is as wide as the pieces
 pub length-fragment : (k width : ℕ) (pieces : List ℕ) (i : ℕ) → length (fragment k width pieces i) ≡ width

@@ -10,13 +10,16 @@ use std::alloc::Global;
 use sw_gf256::inv;
 use sw_types::{Bytes, NoMemory};
 
-/// A code of `k` data fragments and `m` parity fragments: for now of 2 and 1.
+/// A code of `k` data fragments and `m` parity fragments, at least one of each, at most three parity fragments for each
+/// data fragment, and at most 32 fragments in all.
 #[derive(Clone, Copy, Debug)]
 pub struct Code {
     pub k: u32,
     pub m: u32,
-    ghost two: { k ≡ 2 },
-    ghost one: { m ≡ 1 },
+    ghost some_data: { 1 ≤ k },
+    ghost some_parity: { 1 ≤ m },
+    ghost most_parity: { m ≤ 3 * k },
+    ghost total: { k + m ≤ 32 },
 }
 
 impl Code {
@@ -25,8 +28,10 @@ impl Code {
 
     /// The code of so many data and parity fragments.
     pub fn new(k: u32, m: u32) -> Code
-        requires two { k ≡ 2 }
-        requires one { m ≡ 1 }
+        requires some_data { 1 ≤ k }
+        requires some_parity { 1 ≤ m }
+        requires most_parity { m ≤ 3 * k }
+        requires total { k + m ≤ 32 }
         ensures data { result.k ≡ k }
         ensures parity { result.m ≡ m }
     {

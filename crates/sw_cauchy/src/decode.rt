@@ -3,13 +3,12 @@
 ghost use Rattle.std.specs.Prelude.{◌≡◌, ◌≢◌, ◌+◌, ◌*◌, ◌<◌, IfOk, length};
 ghost use Rattle.std.specs.List.{All, AllPairs};
 ghost use Rattle.sw_words.specs.Bytes.{IsBytes};
-ghost use Rattle.sw_cauchy.specs.Determinant.{determinant};
 ghost use Rattle.sw_cauchy.specs.Linear.{IsInverse};
 ghost use Rattle.sw_cauchy.specs.Rows.{generator_rows};
 
 use crate::Code;
+use crate::inversion::invert;
 use std::alloc::Global;
-use sw_gf256::{inv, mul};
 use sw_types::NoMemory;
 
 /// The inverse of the matrix that k rows of the generator matrix make, those of the indices.
@@ -17,12 +16,12 @@ pub(crate) fn decode_matrix(alloc: Global, code: Code, indices: &[u32]) -> Resul
     requires count { length indices.now ≡ code.k }
     requires below { All (λ index. index < code.k + code.m) indices.now }
     requires distinct { AllPairs (λ s t. s ≢ t) indices.now }
-    ensures length { IfOk result (λ matrix. length matrix.items ≡ code.k * code.k) }
+    ensures square { IfOk result (λ matrix. length matrix.items ≡ code.k * code.k) }
     ensures bytes { IfOk result (λ matrix. IsBytes matrix.items) }
     ensures inverse { IfOk result (λ matrix. IsInverse code.k matrix.items (generator_rows code.k indices.now)) }
 {
     let rows = generator_rows(alloc, code, indices)?;
-    invert(alloc, &rows)
+    invert(alloc, &rows, code.k as usize)
 }
 
 // The rows of the generator matrix of these indices, one after another.
@@ -37,22 +36,4 @@ fn generator_rows(alloc: Global, code: Code, indices: &[u32]) -> Result<Vec<u8>,
         code.write_row(&mut rows[t * k..(t + 1) * k], *index);
     }
     Ok(rows)
-}
-
-// The inverse of a matrix of two rows and two columns, whose determinant is not 0.
-fn invert(alloc: Global, rows: &[u8]) -> Result<Vec<u8>, NoMemory>
-    requires four { length rows.now ≡ 4 }
-    requires regular { determinant rows.now ≢ 0 }
-    ensures length { IfOk result (λ matrix. length matrix.items ≡ 4) }
-    ensures bytes { IfOk result (λ matrix. IsBytes matrix.items) }
-    ensures inverse { IfOk result (λ matrix. IsInverse 2 matrix.items rows.now) }
-{
-    let scale = inv(mul(rows[0], rows[3]) ^ mul(rows[1], rows[2]));
-    let entries = [
-        mul(rows[3], scale),
-        mul(rows[1], scale),
-        mul(rows[2], scale),
-        mul(rows[0], scale),
-    ];
-    Ok(entries.to_vec(alloc)?)
 }

@@ -5,10 +5,13 @@
 mod code;
 mod decode;
 mod gather;
+mod inversion;
+mod laws;
 mod rows;
 
 pub use crate::code::Code;
 pub use crate::gather::Gather;
+pub use crate::laws::any_rows_law;
 
 #[cfg(test)]
 mod tests;

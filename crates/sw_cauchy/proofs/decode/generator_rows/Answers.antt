@@ -3,7 +3,7 @@ use Rattle.std.proofs.lemmas.List.{take_more}
 use Rattle.std.proofs.lemmas.Nat.{row_fits}
 use Rattle.sw_cauchy.specs.Rows.{generator_row, generator_rows}
 use Rattle.sw_cauchy.proofs.Parts.{flat_map-push, next_part}
-use Rattle.sw_cauchy.proofs.RowTimes.{length-generator_row}
+use Rattle.sw_cauchy.proofs.GeneratorRows.{length-generator_row}
 use Rattle.sw_cauchy.proofs.decode.generator_rows.Goals as goal
 
 pub loop-t-preserved : goal.loop-t-preserved
