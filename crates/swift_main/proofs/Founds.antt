@@ -78,13 +78,15 @@ other_names name (put ∷ puts) all =
 found_last : (name : Parts) (puts : List Put) (put : Put) → latest name puts ≡ Some put → IsLast put puts × (put.name ≡ name)
 found_last name puts put h =
     let last = last_passing (λ other. name_eq other.name name) puts put h in
-    let same : put.name ≡ name = name_eq-true put.name name last.passes in
-    (record {
+    let same : put.name ≡ name = name_eq-true put.name name last.passes in (
+      record {
         earlier = last.earlier;
         later = last.later;
         place = last.place;
         others = subst (λ n. All (λ other. other.name ≢ n) last.later) (sym same) (All-from_recursion (λ other. other.name ≢ name) last.later (other_names name last.later last.others));
-      }, same)
+      },
+      same,
+    )
 
 -- a list with an element in its middle, made into another
 in_middle : {X Y : Type 0} (f : X → Y) (earlier later : List X) (x : X) → Contains (map f (earlier ++ x ∷ later)) (f x)
@@ -138,5 +140,5 @@ found_is nodes past more name stamp body is ends =
 pub all_held : (world : State) (past : List Event) → StandsFor world past → All (AreHeld world.nodes) (puts_of past)
 all_held world past stands = λ k d below.
     subst (λ nodes. AreHeld nodes (get_or (puts_of past) k d)) (sym stands.nodes)
-      (held_after (puts_of past) (take k (puts_of past)) (drop (suc k) (puts_of past)) (get_or (puts_of past) k d)
-        (sym (take-append-drop k (puts_of past)) ∙ ap (λ rest. take k (puts_of past) ++ rest) (drop-cons (puts_of past) k d below)))
+    (held_after (puts_of past) (take k (puts_of past)) (drop (suc k) (puts_of past)) (get_or (puts_of past) k d)
+    (sym (take-append-drop k (puts_of past)) ∙ ap (λ rest. take k (puts_of past) ++ rest) (drop-cons (puts_of past) k d below)))

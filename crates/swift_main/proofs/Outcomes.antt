@@ -22,8 +22,8 @@ script_ran script fault status world text answer is same ran done wants =
     let ends : status ≡ script_status (first_fault 1 (lines_of script)) = sym is ∙ ap script_status same in
     record {
       whole = λ goes.
-        let parts = done goes in
-        (parts.0 ∙ ends, parts.1 ∙ ap (λ t. t ++ last_line status) ran.text ∙ ap (λ s. run_text [] events ++ last_line s) ends);
+          let parts = done goes in
+          (parts.0 ∙ ends, parts.1 ∙ ap (λ t. t ++ last_line status) ran.text ∙ ap (λ s. run_text [] events ++ last_line s) ends);
       part = λ none. record { events = length events; lines = wants none ∙ ran.text ∙ sym (ap (λ e. run_text [] e) (take-length events)) };
     }
 

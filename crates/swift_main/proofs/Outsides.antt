@@ -29,22 +29,22 @@ left_after (Ok bytes) None new limit consumed few end = tt
 left_after (Ok bytes) (Some whole) None limit consumed few end = absurd consumed
 left_after (Ok bytes) (Some whole) (Some rest) limit consumed few end =
     ⊎_elim
-      (λ short.
-        let none : rest ≡ [] = end short in
-        let all : whole ≡ bytes.items = consumed ∙ ap (λ t. bytes.items ++ t) none ∙ append-nil bytes.items in
-        ap (λ (t : List ℕ). Some t) (none ∙ sym (drop_of_length-le whole {i = limit} (omega (arith, ap length all, few)))))
-      (λ full.
-        let size : length bytes.items ≡ limit = omega (arith, few, full) in
-        ap (λ (t : List ℕ). Some t) (sym (ap (λ t. drop limit t) consumed ∙ drop_at bytes.items rest limit size)))
-      (cases_lt (length bytes.items) limit)
+    (λ short.
+    let none : rest ≡ [] = end short in
+    let all : whole ≡ bytes.items = consumed ∙ ap (λ t. bytes.items ++ t) none ∙ append-nil bytes.items in
+    ap (λ (t : List ℕ). Some t) (none ∙ sym (drop_of_length-le whole {i = limit} (omega (arith, ap length all, few)))))
+    (λ full.
+    let size : length bytes.items ≡ limit = omega (arith, few, full) in
+    ap (λ (t : List ℕ). Some t) (sym (ap (λ t. drop limit t) consumed ∙ drop_at bytes.items rest limit size)))
+    (cases_lt (length bytes.items) limit)
 
 -- a front of a text is one of a longer text
 longer_front : (old new : Option (List ℕ)) (text more : List ℕ) → AppendsFront old new text → AppendsFront old new (text ++ more)
 longer_front old new text more front =
     ⊎_elim
-      (λ within. (front.0, subst (λ t. Appends old new t) (sym (take-append-le front.0 text more (omega arith))) front.1))
-      (λ past. (length text, subst (λ t. Appends old new t) (take_all front.0 text past ∙ sym (take-append-le (length text) text more (omega arith) ∙ take_all (length text) text (omega arith))) front.1))
-      (cases_lt front.0 (length text))
+    (λ within. (front.0, subst (λ t. Appends old new t) (sym (take-append-le front.0 text more (omega arith))) front.1))
+    (λ past. (length text, subst (λ t. Appends old new t) (take_all front.0 text past ∙ sym (take-append-le (length text) text more (omega arith) ∙ take_all (length text) text (omega arith))) front.1))
+    (cases_lt front.0 (length text))
 
 is_no_memory : (status : Status) → (status ≡ NoMemory) ⊎ (status ≢ NoMemory)
 is_no_memory Done = inr (λ same. cc)
@@ -61,8 +61,8 @@ part_front outcome text old new part front =
     let first = take part.events outcome.events in
     let rest = drop part.events outcome.events in
     let split : text_of outcome ≡ run_text [] first ++ (run_text first rest ++ last_line outcome.status) =
-        ap (λ events. run_text [] events ++ last_line outcome.status) (sym (take-append-drop part.events outcome.events))
-        ∙ ap (λ t. t ++ last_line outcome.status) (run_text-append [] first rest) ∙ append_assoc (run_text [] first) (run_text first rest) (last_line outcome.status) in
+    ap (λ events. run_text [] events ++ last_line outcome.status) (sym (take-append-drop part.events outcome.events))
+    ∙ ap (λ t. t ++ last_line outcome.status) (run_text-append [] first rest) ∙ append_assoc (run_text [] first) (run_text first rest) (last_line outcome.status) in
     subst (λ t. AppendsFront old new t) (sym split) (longer_front old new (run_text [] first) (run_text first rest ++ last_line outcome.status) (subst (λ t. AppendsFront old new t) part.lines front))
 
 -- a front of an answer is one of the outcome's text

@@ -17,7 +17,7 @@ pub run_text-append : (past first more : List Event) → run_text past (first ++
 run_text-append past [] more = ap (λ p. run_text p more) (sym (append-nil past))
 run_text-append past (event ∷ events) more =
     ap (λ t. end_line (length past + 1) (end_of past event) ++ t)
-      (run_text-append (past ++ event ∷ []) events more ∙ ap (λ p. run_text (past ++ event ∷ []) events ++ run_text p more) (append_assoc past (event ∷ []) events))
+    (run_text-append (past ++ event ∷ []) events more ∙ ap (λ p. run_text (past ++ event ∷ []) events ++ run_text p more) (append_assoc past (event ∷ []) events))
     ∙ sym (append_assoc (end_line (length past + 1) (end_of past event)) (run_text (past ++ event ∷ []) events) (run_text (past ++ event ∷ events) more))
 
 -- no event was done yet
@@ -32,8 +32,8 @@ pub ran_more : (past first more : List Event) (middle world : State) (old betwee
 ran_more past first more middle world old between new early late = record {
   stands = subst (λ p. StandsFor world p) (append_assoc past first more) late.stands;
   text =
-    late.text ∙ ap (λ t. t ++ run_text (past ++ first) more) early.text ∙ append_assoc old (run_text past first) (run_text (past ++ first) more)
-    ∙ ap (λ t. old ++ t) (sym (run_text-append past first more));
+      late.text ∙ ap (λ t. t ++ run_text (past ++ first) more) early.text ∙ append_assoc old (run_text past first) (run_text (past ++ first) more)
+      ∙ ap (λ t. old ++ t) (sym (run_text-append past first more));
 }
 
 -- a line that isn't faulty comes before the others
@@ -97,8 +97,8 @@ line_done past middle world old between new line left all ok progress ran = reco
   before = progress.before ++ events_in (event_of line);
   ran = ran_more past progress.before (events_in (event_of line)) middle world old between new progress.ran ran;
   rest =
-    append_assoc progress.before (events_in (event_of line)) (events_of left)
-    ∙ ap (λ events. progress.before ++ events) (sym (before_events_is (event_of line) (events_of left) ok)) ∙ progress.rest;
+      append_assoc progress.before (events_in (event_of line)) (events_of left)
+      ∙ ap (λ events. progress.before ++ events) (sym (before_events_is (event_of line) (events_of left) ok)) ∙ progress.rest;
 }
 
 -- no line is left to do, as at the end or at a faulty line
@@ -115,7 +115,7 @@ part_done past middle world old between new line left all progress part =
     let those = events_in (event_of line) in
     let whole : before ++ (those ++ others.0) ≡ events_of all = ap (λ events. before ++ events) (sym others.1) ∙ progress.rest in
     let taken = λ (n : ℕ) (few : n ≤ length those).
-        ap (λ events. take (length before + n) events) (sym whole) ∙ take-append-add before (those ++ others.0) n ∙ ap (λ t. before ++ t) (take-append-le n those others.0 few) in
+    ap (λ events. take (length before + n) events) (sym whole) ∙ take-append-add before (those ++ others.0) n ∙ ap (λ t. before ++ t) (take-append-le n those others.0 few) in
     record {
       written = length before + part.written;
       done = length before + part.done;
@@ -123,9 +123,9 @@ part_done past middle world old between new line left all progress part =
       within = omega (arith, part.within, ap length whole, length-append before (those ++ others.0), length-append those others.0);
       stands = subst (λ p. StandsFor world p) (append_assoc past before (take part.done those) ∙ ap (λ t. past ++ t) (sym (taken part.done part.within))) part.stands;
       text =
-        part.text ∙ ap (λ t. t ++ run_text (past ++ before) (take part.written those)) progress.ran.text
-        ∙ append_assoc old (run_text past before) (run_text (past ++ before) (take part.written those))
-        ∙ ap (λ t. old ++ t) (sym (run_text-append past before (take part.written those)) ∙ ap (λ t. run_text past t) (sym (taken part.written (omega (arith, part.done_before_written, part.within)))));
+          part.text ∙ ap (λ t. t ++ run_text (past ++ before) (take part.written those)) progress.ran.text
+          ∙ append_assoc old (run_text past before) (run_text (past ++ before) (take part.written those))
+          ∙ ap (λ t. old ++ t) (sym (run_text-append past before (take part.written those)) ∙ ap (λ t. run_text past t) (sym (taken part.written (omega (arith, part.done_before_written, part.within)))));
     }
 
 -- the lines of what may be left of a script

@@ -55,7 +55,7 @@ words_short (verb ∷ name ∷ []) event short h = get_short (name_of name) even
 words_short (verb ∷ name ∷ hex ∷ []) event short h =
     let word : length hex ≤ 65536 = short.1.1.0 in
     put_short (name_of name) (bytes_of_hex hex) event (λ bytes spelled. omega (arith, bytes_of_hex-short hex bytes spelled, word))
-      (verb_fits (pointwise nat_eq verb (codes "put")) (put_of (name_of name) (bytes_of_hex hex)) event h)
+    (verb_fits (pointwise nat_eq verb (codes "put")) (put_of (name_of name) (bytes_of_hex hex)) event h)
 words_short (verb ∷ name ∷ hex ∷ more ∷ words) event short h = absurd (cc)
 
 neither : (long empty : Bool) (read : Result (Option Event) LineFault) (event : Event) → cond long (Err Form) (cond empty (Ok None) read) ≡ Ok (Some event) → (long ≡ false) × (read ≡ Ok (Some event))

@@ -12,8 +12,12 @@ use Rattle.swift_main.specs.Run.{Put, puts_of}
 -- what a node keeps of a put: the fragment of the node's index, durable
 abbrev pub stored_of : ℕ → Put → Stored
 stored_of index put = record {
-  name = put.name; stamp = put.stamp; index = index; length = length put.body;
-  fragment = segment_fragment 2 put.body index; durable = true;
+  name = put.name;
+  stamp = put.stamp;
+  index = index;
+  length = length put.body;
+  fragment = segment_fragment 2 put.body index;
+  durable = true;
 }
 
 -- the three nodes after these puts, each with its entries in their order

@@ -63,12 +63,7 @@ impl Status {
 }
 
 // Adds the line of a faulty line to the text.
-fn print_fault(
-    alloc: Global,
-    line: u64,
-    fault: LineFault,
-    text: &mut Bytes,
-) -> Result<(), NoMemory>
+fn print_fault(alloc: Global, line: u64, fault: LineFault, text: &mut Bytes) -> Result<(), NoMemory>
     ensures ok { OnOk result (text.new ≡ text.old ++ last_line (Status.Line line fault)) }
     ensures err { OnErr result (text.new ≡ text.old) }
 {

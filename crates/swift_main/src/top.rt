@@ -38,14 +38,14 @@ pub fn swift_main<S: Source, O: Sink>(
     // Where memory was refused, the lines of the operations that had ended are written, each whole.
     ensures no_memory { result ≡ 4 → IfSome (S.remaining input.old) (λ whole. (ended : ℕ) ×
         Appends (O.written output.old) (O.written output.new)
-            (run_text [] (take ended (outcome_of (map (λ word. string_bytes word) words.now) whole).events))) }
+        (run_text [] (take ended (outcome_of (map (λ word. string_bytes word) words.now) whole).events))) }
 
     // A failed input or output is one whose count of faults rose.
     ensures read_fault { result ≡ 5 → Rose (S.faults input.old) (S.faults input.new)
         × Keeps (O.written output.old) (O.written output.new) }
     ensures write_fault { result ≡ 6 → Rose (O.faults output.old) (O.faults output.new)
         × IfSome (S.remaining input.old) (λ whole. AppendsFront (O.written output.old) (O.written output.new)
-            (text_of (outcome_of (map (λ word. string_bytes word) words.now) whole))) }
+        (text_of (outcome_of (map (λ word. string_bytes word) words.now) whole))) }
 {
     match read_input(alloc, words, input) {
         Ok(whole) => {

@@ -17,7 +17,7 @@ returns-in-Line c =
     let fault = Some (record { line = c.in-Line.line; fault = c.in-Line.fault }) in
     let ran = subst (λ old. Ran [] events c.play.new.world old c.play.new.text) c.new-text.ensures (c.in-Line.ensures.ran (λ same. cc) [] c.in-Ok.ensures) in
     script_ran c.args.script.now fault (Line c.in-Line.line c.in-Line.fault) c.play.new.world c.play.new.text c.finish-in-Line.result refl (c.in-Line.ensures.ends (λ same. cc)) ran
-      c.finish-in-Line.ensures.done c.finish-in-Line.ensures.no_memory
+    c.finish-in-Line.ensures.done c.finish-in-Line.ensures.no_memory
 
 pub returns : goal.returns
 returns c =

@@ -13,4 +13,4 @@ pub returns-clause-found : goal.returns-clause-found
 returns-clause-found c goes past stands before after name stamp body split ends =
     let ran = c.run_lines.ensures.ran goes past stands in
     found_is c.run_lines.new.world.nodes (past ++ before) (event.Get name ∷ after) name stamp body
-      (ran.stands.nodes ∙ ap (λ events. nodes_after (puts_of events)) (ap (λ rest. past ++ rest) split ∙ sym (append_assoc past before (event.Get name ∷ after)))) ends
+    (ran.stands.nodes ∙ ap (λ events. nodes_after (puts_of events)) (ap (λ rest. past ++ rest) split ∙ sym (append_assoc past before (event.Get name ∷ after)))) ends

@@ -15,15 +15,15 @@ lines-preserved c =
     record {
       operations = omega (arith, c.run_line.ensures.counted, c.lines.invariant.operations);
       counted =
-        one_line_more c.lines.number (length c.args.input.now) script line after
+          one_line_more c.lines.number (length c.args.input.now) script line after
           (subst (λ text. IsCounted c.lines.number (length c.args.input.now) text) left c.lines.invariant.counted)
           (copied_some (λ rest. length line + length rest < length script) c.cut_at.result.1 c.cut_at.ensures.shorter);
       fault =
-        sym (fault_before_is (event_of line) (c.lines.number + 1) (first_fault (c.lines.number + 1 + 1) (lines_left after)) c.in-Ok.ensures.read)
-        ∙ sym (ap (λ texts. first_fault (c.lines.number + 1) texts) lines) ∙ c.lines.invariant.fault;
+          sym (fault_before_is (event_of line) (c.lines.number + 1) (first_fault (c.lines.number + 1 + 1) (lines_left after)) c.in-Ok.ensures.read)
+          ∙ sym (ap (λ texts. first_fault (c.lines.number + 1) texts) lines) ∙ c.lines.invariant.fault;
       progress = λ past stands.
-        let progress = subst (λ texts. Progress past c.lines.world c.args.text.now c.lines.text texts all) lines (c.lines.invariant.progress past stands) in
-        line_done past c.lines.world c.run_line.new.world c.args.text.now c.lines.text c.run_line.new.text line (lines_left after) all c.in-Ok.ensures.read progress
+          let progress = subst (λ texts. Progress past c.lines.world c.args.text.now c.lines.text texts all) lines (c.lines.invariant.progress past stands) in
+          line_done past c.lines.world c.run_line.new.world c.args.text.now c.lines.text c.run_line.new.text line (lines_left after) all c.in-Ok.ensures.read progress
           (c.in-Ok.ensures.ok (past ++ progress.before) progress.ran.stands);
     }
 
@@ -36,4 +36,4 @@ returns-in-Err-NoMemory-clause-ran_part c wants past stands =
     let lines = ap lines_left (ap option_copied c.in-Some.is) ∙ first_line script line after c.cut_at.ensures.cut in
     let progress = subst (λ texts. Progress past c.lines.world c.args.text.now c.lines.text texts all) lines (c.lines.invariant.progress past stands) in
     part_done past c.lines.world c.run_line.new.world c.args.text.now c.lines.text c.run_line.new.text line (lines_left after) all progress
-      (c.in-Err-NoMemory.ensures.part (cc) (past ++ progress.before) progress.ran.stands)
+    (c.in-Err-NoMemory.ensures.part (cc) (past ++ progress.before) progress.ran.stands)

@@ -10,12 +10,13 @@ pub returns-in-Ok-clause-write_fault : goal.returns-in-Ok-clause-write_fault
 returns-in-Ok-clause-write_fault g c six =
     let words = map (λ word. string_bytes word) c.args.words.now in
     let old = g.O.Sink.written c.args.output.now in
-    let new = g.O.Sink.written c.write_all.new.sink in
-    (c.in-Err.ensures.cause.cause refl,
+    let new = g.O.Sink.written c.write_all.new.sink in (
+      c.in-Err.ensures.cause.cause refl,
       by_whole (g.S.Source.remaining c.args.input.now) (outcome_of words) (outcome_of words c.in-Ok.whole.items) (λ outcome. AppendsFront old new (text_of outcome)) c.in-Ok.ensures.enough
-        (answer_front (outcome_of words c.in-Ok.whole.items) c.decide-answer.result old new
+          (answer_front (outcome_of words c.in-Ok.whole.items) c.decide-answer.result old new
           (subst (λ input. Gives (outcome_of words input) c.decide-answer.result) c.deref.ensures.value c.decide-answer.ensures)
-          (subst (λ text. AppendsFront old new text) c.as_slice.ensures c.in-Err.ensures.front)))
+          (subst (λ text. AppendsFront old new text) c.as_slice.ensures c.in-Err.ensures.front)),
+    )
 
 pub returns-clause-no_memory : goal.returns-clause-no_memory
 returns-clause-no_memory g c four =
