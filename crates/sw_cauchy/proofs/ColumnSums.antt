@@ -49,7 +49,7 @@ left_out_from (later r) z (inl e) = inl e
 left_out_from (later r) z (inr h) = inr (left_out_from r z h)
 
 -- and so did what was left out
-pub left_out_itself : {ys zs : List ℕ} {x : ℕ} → LeftOut ys x zs → Has ys x
+left_out_itself : {ys zs : List ℕ} {x : ℕ} → LeftOut ys x zs → Has ys x
 left_out_itself first = inl refl
 left_out_itself (later r) = inr (left_out_itself r)
 

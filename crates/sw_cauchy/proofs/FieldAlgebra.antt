@@ -33,7 +33,7 @@ pub xor_product : (a b c : ℕ) → product (bit_xor a b) c ≡ bit_xor (product
 xor_product a b c = (product-left c).keeps a b
 
 -- the order of two factors is free
-pub product_swap : (a b c : ℕ) → a < 256 → b < 256 → c < 256 → product a (product b c) ≡ product b (product a c)
+product_swap : (a b c : ℕ) → a < 256 → b < 256 → c < 256 → product a (product b c) ≡ product b (product a c)
 product_swap a b c ha hb hc =
     sym (product_assoc a b c ha hb hc) ∙ ap (λ x. product x c) (product_comm a b ha hb) ∙ product_assoc b a c hb ha hc
 
@@ -71,9 +71,6 @@ eliminated a b c v apos bpos ha hb hc hv =
 
     over_b : ℕ
     over_b = product (inverse b) v
-
-    a_lt : over_a < 256
-    a_lt = product_lt (inverse a) v (inverse_lt a) hv
 
     b_lt : over_b < 256
     b_lt = product_lt (inverse b) v (inverse_lt b) hv

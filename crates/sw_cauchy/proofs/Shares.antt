@@ -16,7 +16,7 @@ length-shares_of width [] bytes = refl
 length-shares_of width (i ∷ indices) bytes = ap suc (length-shares_of width indices (drop width bytes))
 
 -- one more share
-pub shares_of-push : (width : ℕ) (indices bytes : List ℕ) (i : ℕ) (new : List ℕ) → length bytes ≡ length indices * width → length new ≡ width
+shares_of-push : (width : ℕ) (indices bytes : List ℕ) (i : ℕ) (new : List ℕ) → length bytes ≡ length indices * width → length new ≡ width
     → shares_of width (indices ++ i ∷ []) (bytes ++ new) ≡ shares_of width indices bytes ++ record { index = i; bytes = new } ∷ []
 shares_of-push width [] [] i new filled e =
     let P : List ℕ → Share = λ b. record { index = i; bytes = b } in
@@ -44,7 +44,7 @@ share_byte width (i ∷ indices) bytes (suc t) place d h l =
     ∙ get_or-drop width bytes (t * width + place) 0 ∙ ap (λ n. get_or bytes n 0) (omega arith)
 
 -- the number of shares gathered
-pub count_of_gathered : (inside : Inside) (gather : Gathered) → gathered inside ≡ gather → length gather.shares ≡ length inside.indices.items
+count_of_gathered : (inside : Inside) (gather : Gathered) → gathered inside ≡ gather → length gather.shares ≡ length inside.indices.items
 count_of_gathered inside gather view =
     sym (ap (λ (v : Gathered). length v.shares) view) ∙ length-shares_of inside.width inside.indices.items inside.bytes.items
 

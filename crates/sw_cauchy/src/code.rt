@@ -81,8 +81,8 @@ impl Code {
         Ok(fragments)
     }
 
-    // A k-th of so many bytes, rounded up.
-    fn fragment_width(&self, bytes: usize) -> usize
+    /// A k-th of so many bytes, rounded up.
+    pub(crate) fn fragment_width(&self, bytes: usize) -> usize
         ensures { result ≡ fragment_width self.now.k bytes }
     {
         bytes.div_ceil(self.k as usize)
