@@ -1,14 +1,14 @@
 -- Cuts at the first byte of a kind, by its place.
-use Rattle.std.proofs.Common.{◌≡◌, ℕ, ◌+◌, ◌-◌, ◌<◌, ◌≤◌, Bool, true, false, List, [], ◌∷◌, length, take, drop, get_or, Some, None, sym, ◌∙◌, ap, subst, arith, ⊎_elim}
-use Rattle.std.specs.List.{slice_split, before_first, after_first, position_or_len}
+use Rattle.std.proofs.Common.{◌≡◌, ℕ, ◌+◌, ◌-◌, ◌<◌, Bool, true, false, List, ◌∷◌, length, take, drop, Some, None, sym, ◌∙◌, ap, subst, arith, ⊎_elim}
+use Rattle.std.specs.List.{slice_split, position_or_len}
 use Rattle.std.proofs.lemmas.Bool.{cases_Bool}
 use Rattle.std.proofs.Math.ListN.{drop_of_length-le}
 use Rattle.std.proofs.Math.Seq.{take-length}
 use Rattle.std.proofs.lemmas.List.{take_rest, get_or_default}
 use Rattle.std.proofs.lemmas.List.Splits.{slice_split_first, slice_split_none}
 use Rattle.std.proofs.lemmas.List.Sums.{position_or_len_is}
-use Rattle.memchr.specs.Find.{IsFirstByte, Passes, Nowhere, NoneBefore}
-use Rattle.swift_main.specs.Cut.{IsCut, parts_left, or_nothing}
+use Rattle.memchr.specs.Find.{Passes, Nowhere, NoneBefore}
+use Rattle.swift_main.specs.Cut.{IsCut}
 
 -- a test that doesn't pass fails
 fails : (b : Bool) → ¬ (b ≡ true) → b ≡ false

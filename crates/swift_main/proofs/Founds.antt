@@ -1,15 +1,14 @@
 -- A body that was found is that of the last put of its name, and the nodes hold its fragments.
-use Rattle.std.proofs.Common.{◌≡◌, ℕ, zero, suc, ◌+◌, ◌<◌, Bool, true, false, cond, List, [], ◌∷◌, ◌++◌, map, reverse, length, get_or, take, drop, Option, Some, None, refl, sym, ◌∙◌, ap, subst, arith, append_assoc}
+use Rattle.std.proofs.Common.{◌≡◌, ℕ, zero, suc, ◌+◌, Bool, true, false, cond, List, [], ◌∷◌, ◌++◌, map, reverse, get_or, take, drop, Option, Some, None, refl, sym, ◌∙◌, ap, subst, arith, append_assoc}
 use Rattle.std.specs.List.{All, AllByRecursion, Contains, find}
-use Rattle.std.specs.Prelude.{slice_index_or, ◌≢◌}
+use Rattle.std.specs.Prelude.{◌≢◌}
 use Rattle.std.proofs.lemmas.Bool.{both_ways}
 use Rattle.std.proofs.Math.Seq.{drop-cons}
 use Rattle.std.proofs.lemmas.List.{reverse-append, take-append-drop}
-use Rattle.std.proofs.lemmas.List.Elements.{All-from_recursion, Contains-append_left}
+use Rattle.std.proofs.lemmas.List.Elements.{All-from_recursion}
 use Rattle.sw_types.proofs.Names.{name_eq-true, name_eq-same}
 use Rattle.sw_types.specs.Name.{Parts, name_eq}
-use Rattle.swift_main.specs.declared.end.End.{End}
-use Rattle.swift_main.specs.declared.end.End.TheVariants.{Created, Found, Absent}
+use Rattle.swift_main.specs.declared.end.End.TheVariants.{Found}
 use Rattle.swift_main.specs.declared.event.Event.{Event}
 use Rattle.swift_main.specs.declared.event.Event.TheVariants as event
 use Rattle.swift_main.specs.declared.node.Stored.{Stored}

@@ -1,15 +1,14 @@
 -- Answers that keep to an outcome.
-use Rattle.std.proofs.Common.{◌≡◌, ℕ, ◌≤◌, List, [], ◌∷◌, ◌++◌, length, take, Option, Some, None, refl, sym, ◌∙◌, ap, subst, arith}
+use Rattle.std.proofs.Common.{◌≡◌, ℕ, List, [], ◌++◌, length, Option, sym, ◌∙◌, ap}
 use Rattle.std.specs.Prelude.{◌≢◌}
 use Rattle.std.proofs.Math.Seq.{take-length}
 use Rattle.swift_main.specs.Answer.{Gives}
 use Rattle.swift_main.specs.Nodes.{State}
-use Rattle.swift_main.specs.Outcome.{IsPart, Outcome, last_line, script_outcome, script_status}
+use Rattle.swift_main.specs.Outcome.{IsPart, last_line, script_outcome, script_status}
 use Rattle.swift_main.specs.Play.{Ran, RanPart}
 use Rattle.swift_main.specs.Run.{run_text}
 use Rattle.swift_main.specs.Script.{Fault, events_of, first_fault, lines_of}
 use Rattle.swift_main.specs.declared.decide.Answer.{Answer}
-use Rattle.swift_main.specs.declared.event.Event.{Event}
 use Rattle.swift_main.specs.declared.status.Status.{Status}
 use Rattle.swift_main.specs.declared.status.Status.TheVariants.{NoMemory}
 

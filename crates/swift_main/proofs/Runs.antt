@@ -10,7 +10,7 @@ use Rattle.swift_main.specs.declared.event.LineFault.{LineFault}
 use Rattle.swift_main.specs.Nodes.{State, StandsFor}
 use Rattle.swift_main.specs.Play.{Ran, RanPart, events_in}
 use Rattle.swift_main.specs.Run.{run_text, end_line, end_of}
-use Rattle.swift_main.specs.Script.{Fault, before_events, events_of, event_of, fault_before, first_fault, lines_of}
+use Rattle.swift_main.specs.Script.{Fault, before_events, events_of, event_of, fault_before, lines_of}
 
 -- the text of events one after another
 pub run_text-append : (past first more : List Event) → run_text past (first ++ more) ≡ run_text past first ++ run_text (past ++ first) more

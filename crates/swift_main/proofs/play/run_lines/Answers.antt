@@ -1,4 +1,4 @@
-use Rattle.std.proofs.Common.{◌≡◌, ℕ, ◌+◌, ◌<◌, ◌++◌, ◌∷◌, List, length, Option, sym, ◌∙◌, ap, subst, arith}
+use Rattle.std.proofs.Common.{◌+◌, ◌<◌, ◌++◌, length, sym, ◌∙◌, ap, subst, arith}
 use Rattle.std.specs.Option.{option_copied}
 use Rattle.swift_main.specs.Script.{event_of, first_fault, lines_of}
 use Rattle.swift_main.proofs.Runs.{IsCounted, Progress, copied_some, fault_before_is, first_line, line_done, lines_left, one_line_more, part_done}

@@ -1,7 +1,5 @@
-use Rattle.std.proofs.Common.{◌≡◌, ℕ, suc, ◌+◌, ◌≤◌, ◌==◌, List, length, Option, Some, None, MatchOption}
+use Rattle.std.proofs.Common.{◌≡◌, ◌+◌, ◌≤◌, List, length}
 use Rattle.std.specs.Option.{option_copied}
-use denote.Bor.{Bor}
-use Rattle.swift_main.specs.Cut.{parts_left}
 use Rattle.swift_main.specs.Nodes.{StandsFor}
 use Rattle.swift_main.specs.Script.{first_fault, lines_of}
 use Rattle.swift_main.specs.declared.event.Event.{Event}
