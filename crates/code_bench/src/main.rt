@@ -1,0 +1,58 @@
+//! Tries and measures the erasure code. With no arguments it encodes and decodes a short segment by each of three codes.
+//! With `measure SECONDS` it prints how fast each code does so, and how fast it encodes by the definition of a fragment.
+#![tactic(auto)]
+
+mod measure;
+mod plain;
+mod segment;
+mod trial;
+
+use crate::measure::measure;
+use crate::trial::try_code;
+use anyhow::Result;
+use std::env;
+use std::process::ExitCode;
+use std::rt::Env;
+use sw_cauchy::Code;
+
+// What the words of the command line ask for.
+#[derive(Clone, Copy, Debug)]
+enum Command {
+    Try,
+    Measure { seconds: u64 },
+}
+
+fn main(rt: HostRuntime) -> Result<ExitCode> {
+    let Some(command) = read_command(&rt)? else {
+        eprintln!(rt; "usage: code_bench [measure SECONDS]")?;
+        return Ok(ExitCode::FAILURE);
+    };
+    for code in [Code::new(2, 1), Code::new(4, 2), Code::new(10, 4)] {
+        match command {
+            Command::Try => try_code(&rt, code)?,
+            Command::Measure { seconds } => measure(&rt, code, seconds)?,
+        }
+    }
+    Ok(ExitCode::SUCCESS)
+}
+
+// The command of the command line: none where the line is faulty, as one is whose words are not UTF-8.
+fn read_command(rt: &(impl Env + AllocGlobal)) -> Result<Option<Command>> {
+    let Ok(words) = env::args(rt) else {
+        return Ok(None);
+    };
+    let words: Vec<String> = words.collect(rt.alloc())?;
+    Ok(command_of(&words))
+}
+
+// The command of the words, the program's name first.
+fn command_of(words: &[String]) -> Option<Command> {
+    if words.len() <= 1 {
+        return Some(Command::Try);
+    }
+    if words.len() == 3 && words[1].as_str() == "measure" {
+        let seconds = words[2].as_str().parse::<u64>().ok()?;
+        return Some(Command::Measure { seconds });
+    }
+    None
+}
