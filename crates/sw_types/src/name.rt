@@ -109,9 +109,9 @@ impl Model for Name {
     ghost Value = { Parts };
 
     ghost view = { λ name. record {
-        account = string_bytes name.account;
-        container = string_bytes name.container;
-        object = string_bytes name.object
+      account = string_bytes name.account;
+      container = string_bytes name.container;
+      object = string_bytes name.object;
     } };
 }
 

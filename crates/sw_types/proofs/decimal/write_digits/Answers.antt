@@ -6,9 +6,9 @@ use Rattle.sw_types.proofs.decimal.write_digits.Goals as goal
 
 pub loop-place-preserved : goal.loop-place-preserved
 loop-place-preserved c = (
-    simp length-set (omega arith),
-    one_more_digit _ _ _ c.loop-place-test.true c.loop-place.invariant.0 ∙ c.loop-place.invariant.1,
-  )
+  simp length-set (omega arith),
+  one_more_digit _ _ _ c.loop-place-test.true c.loop-place.invariant.0 ∙ c.loop-place.invariant.1,
+)
 
 pub returns : goal.returns
 returns c = digits_written _ _ _ _ c.loop-place-test.false c.loop-place.invariant.1
