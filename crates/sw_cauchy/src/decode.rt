@@ -11,7 +11,8 @@ use crate::inversion::invert;
 use std::alloc::Global;
 use sw_types::NoMemory;
 
-/// The inverse of the matrix that k rows of the generator matrix make, those of the indices.
+/// The matrix that decodes the fragments of k indices: the inverse of the generator matrix's rows of these indices, as k
+/// rows of k entries, one after another.
 pub(crate) fn decode_matrix(alloc: Global, code: Code, indices: &[u32]) -> Result<Vec<u8>, NoMemory>
     requires count { length indices.now ≡ code.k }
     requires below { All (λ index. index < code.k + code.m) indices.now }

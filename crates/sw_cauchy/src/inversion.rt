@@ -1,5 +1,5 @@
-//! The inverse of a square matrix over the field, by elimination: operations on the rows make the matrix the unit matrix,
-//! and the unit matrix the inverse. A matrix of k rows and columns is a slice of its rows, one after another.
+//! The inverse of a square matrix over the field, by elimination: operations on the rows make the matrix the unit
+//! matrix, and the unit matrix the inverse. A matrix of k rows and columns is a slice of its rows, one after another.
 
 ghost use Rattle.std.specs.Prelude.{◌≡◌, ◌≢◌, ℕ, ◌*◌, ◌+◌, ◌<◌, ◌≤◌, IfOk, length};
 ghost use Rattle.sw_words.specs.Bytes.{IsBytes};
