@@ -1,6 +1,6 @@
 -- Places of names: a hash, and the partition that its first bytes give. As in Swift, a name is hashed by MD5 with a prefix
 -- and a suffix of the cluster's, and its folder is named by partition, the last three hexadecimal digits, and the hash.
-use Rattle.std.specs.Prelude.{◌≡◌, ℕ, ◌-◌, ◌/◌, ◌^◌, ◌<◌, codes, List, ◌∷◌, ◌++◌, length, take, drop}
+use Rattle.std.specs.Prelude.{◌≡◌, ℕ, ◌-◌, ◌/◌, ◌^◌, codes, List, ◌∷◌, ◌++◌, length, take, drop}
 use Rattle.std.specs.Fmt.{decimal}
 use Rattle.std.specs.Int.{from_be_bytes, w32}
 use Rattle.hex.specs.Hex.{encode_lower}

@@ -47,6 +47,7 @@ impl Place {
     }
 
     /// The text of its folder, `objects/PART/SUFFIX/HASH`: the suffix is the last three of the hash's 32 digits.
+    #[tactic(auto, using(crate::proofs::Hashes::digit_bytes))]
     pub fn folder(&self, alloc: Global) -> Result<String, NoMemory>
         ensures { IfOk result (λ text. string_bytes text ≡ folder_of self.now) }
     {

@@ -1,7 +1,7 @@
 //! Storage policies.
 
-ghost use Rattle.std.specs.Prelude.{◌≡◌, None, Some, IfErr, IfOk};
-ghost use Rattle.sw_types.specs.Policy.{Numbers, policy_fault};
+ghost use Rattle.std.specs.Prelude.{◌≡◌, IfErr, IfOk};
+ghost use Rattle.sw_types.specs.Policy.{policy_fault};
 
 use std::marker::Model;
 use thiserror::Error;

@@ -1,14 +1,13 @@
 use Rattle.std.proofs.Common.{Some, ap, ◌∙◌, arith, length, length-append}
 use Rattle.std.specs.Result.{result_ok}
 use Rattle.std.proofs.lemmas.Option.{none-some}
-use Rattle.hex.specs.Hex.{encode_lower, lower_digits}
-use Rattle.hex.proofs.HexLemmas.{length-encode_with}
-use Rattle.sw_hashpath.proofs.Hashes.{hash_from_end}
+use Rattle.hex.specs.Hex.{encode_lower}
+use Rattle.sw_hashpath.proofs.Hashes.{hash_from_end, length-encode_lower}
 use Rattle.sw_hashpath.proofs.place.last_hash.Goals as goal
 
 pub returns-in_err-digits : goal.returns-in_err-digits
 returns-in_err-digits c = λ front hash sixteen bytes ends.
-    let size = length-encode_with lower_digits hash in
+    let size = length-encode_lower hash in
     absurd (omega (arith, c.in_err-digits.ensures.cases, ap length ends, length-append front (encode_lower hash)))
 
 pub returns-in_err-ok : goal.returns-in_err-ok

@@ -1,4 +1,4 @@
-use Rattle.std.proofs.Common.{◌≡◌, ◌∙◌, ap, sym}
+use Rattle.std.proofs.Common.{◌∙◌, ap, sym}
 use Rattle.std.proofs.lemmas.Option.{same_Some}
 use Rattle.sw_hashpath.specs.Place.{folder_of}
 use Rattle.sw_hashpath.proofs.Hashes.{folder_end, folder_of-spot_of}
