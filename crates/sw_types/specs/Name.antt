@@ -1,5 +1,5 @@
 -- Names of objects: an account, a container and an object.
-use Rattle.std.specs.Prelude.{ℕ, ◌==◌, Bool, true, false, not, ◌&&◌, if◌then◌else◌, nat_eq, nat_lt, List, length, Option, Some, None}
+use Rattle.std.specs.Prelude.{ℕ, ◌==◌, Bool, true, false, not, ◌&&◌, if◌then◌else◌, nat_eq, nat_lt, List, ◌∷◌, ◌++◌, length, Option, Some, None}
 use Rattle.std.specs.Cmp.Lexicographic.{pointwise}
 use Rattle.std.specs.List.{list_any}
 use Rattle.std.specs.Str.{is_utf8}
@@ -48,3 +48,7 @@ or_else None other = other
 abbrev pub name_fault : Parts → Option NameFault
 name_fault parts = or_else (part_fault Account parts.account)
     (or_else (part_fault Container parts.container) (part_fault Object parts.object))
+
+-- the parts, each behind a slash
+abbrev pub path_of : Parts → List ℕ
+path_of parts = 47 ∷ parts.account ++ 47 ∷ parts.container ++ 47 ∷ parts.object

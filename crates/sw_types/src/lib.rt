@@ -7,12 +7,14 @@ mod decimal;
 mod hexadecimal;
 mod memory;
 mod name;
+mod policy;
 mod stamp;
 
 pub use crate::bytes::Bytes;
 pub use crate::hexadecimal::{HexFault, hex_law, print_hex, read_hex};
 pub use crate::memory::NoMemory;
 pub use crate::name::{Name, NameFault, Part, name_law};
+pub use crate::policy::{Policy, PolicyFault};
 pub use crate::stamp::Stamp;
 
 #[cfg(test)]
