@@ -1,0 +1,46 @@
+-- A cluster: what a ring's text says, where it breaks no rule.
+use Rattle.std.specs.Prelude.{◌≡◌, ℕ, ◌<◌, if◌then◌else◌, List, [], filter, map, not, slice_index, slice_index_or, Option, Some, None, Result, Ok, Err, IsPermutation}
+use Rattle.std.specs.List.{position}
+use Rattle.std.specs.List.Sorted.{IsStrictlyIncreasing}
+use Rattle.std.specs.Str.{is_utf8}
+use Rattle.serde_json.specs.Data.{Data}
+use Rattle.serde_json.specs.Read.{read_text}
+use Rattle.sw_types.specs.Policy.{Numbers}
+use Rattle.sw_ring.specs.declared.fault.RingFault.{RingFault}
+use Rattle.sw_ring.specs.declared.fault.RingFault.TheVariants.{NotJson}
+use Rattle.sw_ring.specs.Fields.{DeviceNumbers, Fields, fields_of}
+use Rattle.sw_ring.specs.Ring.{is_among, ring_fault}
+
+abbrev pub value_of : Option Data → Result Fields RingFault
+value_of None = Err NotJson
+value_of (Some value) = fields_of value
+
+abbrev pub no_fault : Option RingFault → Fields → Result Fields RingFault
+no_fault None fields = Ok fields
+no_fault (Some fault) fields = Err fault
+
+abbrev pub keeping_rules : Result Fields RingFault → Result Fields RingFault
+keeping_rules (Err fault) = Err fault
+keeping_rules (Ok fields) = no_fault (ring_fault fields) fields
+
+-- what a text says, or the first rule that it breaks
+abbrev pub ring_of : List ℕ → Result Fields RingFault
+ring_of text = keeping_rules (value_of (if is_utf8 text then read_text text else None))
+
+-- the same with the devices in ascending order of their ids
+pub record IsCluster (fields cluster : Fields) : Type 0 where
+  pub part_power : cluster.part_power ≡ fields.part_power
+  pub prefix : cluster.prefix ≡ fields.prefix
+  pub suffix : cluster.suffix ≡ fields.suffix
+  pub policy : cluster.policy ≡ fields.policy
+  pub rows : cluster.rows ≡ fields.rows
+  pub devices : IsPermutation fields.devices cluster.devices
+  pub ascending : IsStrictlyIncreasing (map (λ device. device.id) cluster.devices)
+
+-- the devices of a partition, by index
+abbrev pub column_of : Fields → ℕ → List ℕ
+column_of cluster part = map (λ row. slice_index row part) cluster.rows
+
+-- the devices that are none of its primaries, ascending
+abbrev pub handoffs_of : Fields → ℕ → List ℕ
+handoffs_of cluster part = filter (λ id. not (is_among (column_of cluster part) id)) (map (λ device. device.id) cluster.devices)

@@ -1,0 +1,57 @@
+//! What is wrong with a ring's text.
+
+use sw_types::PolicyFault;
+use thiserror::Error;
+
+/// A member of a ring's object, or the object.
+#[derive(Clone, Copy, Debug, PartialEq, Eq)]
+pub enum Member {
+    Ring,
+    PartPower,
+    HashPrefix,
+    HashSuffix,
+    K,
+    M,
+    Q,
+    C,
+    Segment,
+    Devices,
+    Rows,
+}
+
+/// The first rule that a ring's text breaks, in the order of the variants.
+#[derive(Clone, Copy, Debug, PartialEq, Eq, Error)]
+pub enum RingFault {
+    /// The text is not JSON, or not UTF-8.
+    #[error("not JSON")]
+    NotJson,
+    /// The value is not an object, or this member is missing, of another kind, or out of its range.
+    #[error("a faulty member")]
+    Field(Member),
+    /// The partition power is above 16.
+    #[error("a partition power of {0}")]
+    PartPower(u64),
+    /// The policy breaks a bound.
+    #[error("a faulty policy")]
+    Policy(PolicyFault),
+    /// There are more than 64 devices.
+    #[error("{0} devices")]
+    TooManyDevices(usize),
+    /// Two devices have this id.
+    #[error("two devices {0}")]
+    DuplicateDevice(u16),
+    /// There is not one row for each fragment.
+    #[error("{0} rows")]
+    RowCount(usize),
+    /// This row has not one device for each partition.
+    #[error("the length of row {0}")]
+    RowLength(usize),
+    /// A row names a device that is not there.
+    #[error("no device {0}")]
+    UnknownDevice(u16),
+    /// Two rows name this device for one partition.
+    #[error("twice in partition {0} device {1}")]
+    SameDeviceTwice(usize, u16),
+    #[error("out of memory")]
+    NoMemory,
+}
