@@ -1,14 +1,12 @@
 -- A cluster: what a ring's text says, where it breaks no rule.
-use Rattle.std.specs.Prelude.{◌≡◌, ℕ, ◌<◌, if◌then◌else◌, List, [], filter, map, not, slice_index, slice_index_or, Option, Some, None, Result, Ok, Err, IsPermutation}
-use Rattle.std.specs.List.{position}
-use Rattle.std.specs.List.Sorted.{IsStrictlyIncreasing}
+use Rattle.std.specs.Prelude.{◌≡◌, ℕ, if◌then◌else◌, List, filter, map, not, slice_index, Option, Some, None, Result, Ok, Err}
+use Rattle.std.specs.List.Sorted.{IsPermutation, IsStrictlyIncreasing}
 use Rattle.std.specs.Str.{is_utf8}
 use Rattle.serde_json.specs.Data.{Data}
-use Rattle.serde_json.specs.Read.{read_text}
-use Rattle.sw_types.specs.Policy.{Numbers}
+use Rattle.serde_json.specs.Read.{read as read_text}
 use Rattle.sw_ring.specs.declared.fault.RingFault.{RingFault}
 use Rattle.sw_ring.specs.declared.fault.RingFault.TheVariants.{NotJson}
-use Rattle.sw_ring.specs.Fields.{DeviceNumbers, Fields, fields_of}
+use Rattle.sw_ring.specs.Fields.{Fields, fields_of}
 use Rattle.sw_ring.specs.Ring.{is_among, ring_fault}
 
 abbrev pub value_of : Option Data → Result Fields RingFault

@@ -1,6 +1,6 @@
 -- The members of a ring's JSON object, by the value that the text reads as. Unknown members are ignored.
 use Rattle.std.specs.Prelude.{ℕ, ◌+◌, ◌-◌, ◌^◌, if◌then◌else◌, nat_lt, min, codes, List, [], ◌∷◌, length, Option, Some, None, Result, Ok, Err}
-use Rattle.serde_json.specs.Data.{Data, Num, Items, Members}
+use Rattle.serde_json.specs.Data.{Data, Items, Members}
 use Rattle.serde_json.specs.Data as json
 use Rattle.serde_json.specs.Find.{get_member}
 use Rattle.sw_types.specs.Policy.{Numbers}
@@ -82,23 +82,28 @@ abbrev pub field : {A : Type 0} → Member → Option A → Result A RingFault
 field member (Some value) = Ok value
 field member None = Err (Field member)
 
--- the members of an object, in their order
-abbrev pub fields_by : Members → Result Fields RingFault
-fields_by members = do
-  part_power ← field name.PartPower (required (whole_below (2 ^ 64)) (get_member (codes "part_power") members))
-  prefix ← field name.HashPrefix (optional [] short_text (get_member (codes "hash_prefix") members))
-  suffix ← field name.HashSuffix (optional [] short_text (get_member (codes "hash_suffix") members))
+-- the numbers of its policy
+unfoldable pub policy_by : Members → Result Numbers RingFault
+policy_by members = do
   k ← field name.K (required (whole_below (2 ^ 32)) (get_member (codes "k") members))
   m ← field name.M (required (whole_below (2 ^ 32)) (get_member (codes "m") members))
   q ← field name.Q (optional (min (k + 1) (2 ^ 32 - 1)) (whole_below (2 ^ 32)) (get_member (codes "q") members))
   c ← field name.C (optional q (whole_below (2 ^ 32)) (get_member (codes "c") members))
   segment ← field name.Segment (optional 1048576 (whole_below (2 ^ 32)) (get_member (codes "segment") members))
+  Ok (record { k = k; m = m; q = q; c = c; segment = segment })
+
+-- the members of an object, in their order
+unfoldable pub fields_by : Members → Result Fields RingFault
+fields_by members = do
+  part_power ← field name.PartPower (required (whole_below (2 ^ 64)) (get_member (codes "part_power") members))
+  prefix ← field name.HashPrefix (optional [] short_text (get_member (codes "hash_prefix") members))
+  suffix ← field name.HashSuffix (optional [] short_text (get_member (codes "hash_suffix") members))
+  policy ← policy_by members
   devices ← field name.Devices (not_empty (required (list_of device_of) (get_member (codes "devices") members)))
   rows ← field name.Rows (required (list_of (list_of (whole_below 65536))) (get_member (codes "rows") members))
   Ok (record {
       part_power = part_power; prefix = prefix; suffix = suffix;
-      policy = record { k = k; m = m; q = q; c = c; segment = segment };
-      devices = devices; rows = rows;
+      policy = policy; devices = devices; rows = rows;
     })
 
 -- what a value says, if it is an object

@@ -1,3 +1,4 @@
 pub mod Cluster
 pub mod Fields
+pub mod Reading
 pub mod Ring

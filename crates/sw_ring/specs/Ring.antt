@@ -2,7 +2,6 @@
 use Rattle.std.specs.Prelude.{ℕ, ◌+◌, ◌^◌, ◌==◌, Bool, false, if◌then◌else◌, nat_lt, List, [], ◌∷◌, length, map, slice_get, Option, Some, None}
 use Rattle.std.specs.List.{list_any}
 use Rattle.sw_types.specs.Policy.{policy_fault}
-use Rattle.sw_types.specs.declared.policy.PolicyFault.{PolicyFault}
 use Rattle.sw_ring.specs.declared.fault.RingFault.{RingFault}
 use Rattle.sw_ring.specs.declared.fault.RingFault.TheVariants.{PartPower, Policy, TooManyDevices, DuplicateDevice, RowCount, RowLength, UnknownDevice, SameDeviceTwice}
 use Rattle.sw_ring.specs.Fields.{Fields}
@@ -62,7 +61,7 @@ if_some fault None = None
 if_some fault (Some value) = Some (fault value)
 
 -- the first rule that the members break
-abbrev pub ring_fault : Fields → Option RingFault
+unfoldable pub ring_fault : Fields → Option RingFault
 ring_fault f =
     let ids = map (λ device. device.id) f.devices in
     let total = f.policy.k + f.policy.m in

@@ -1,6 +1,10 @@
 //! What is wrong with a ring's text.
 
-use sw_types::PolicyFault;
+ghost use Rattle.std.specs.Prelude.{◌≡◌};
+ghost use Rattle.sw_ring.specs.declared.fault.RingFault.TheVariants.{NoMemory as WantOfMemory};
+
+use std::alloc::{AllocError, AllocFailed};
+use sw_types::{NoMemory, PolicyFault};
 use thiserror::Error;
 
 /// A member of a ring's object, or the object.
@@ -54,4 +58,28 @@ pub enum RingFault {
     SameDeviceTwice(usize, u16),
     #[error("out of memory")]
     NoMemory,
+}
+
+impl From<AllocError> for RingFault {
+    ghost from_gives = { λ _ fault. fault ≡ WantOfMemory };
+
+    fn from(_refused: AllocError) -> RingFault {
+        RingFault::NoMemory
+    }
+}
+
+impl<T: Drop> From<AllocFailed<T>> for RingFault {
+    ghost from_gives = { λ _ fault. fault ≡ WantOfMemory };
+
+    fn from(_refused: AllocFailed<T>) -> RingFault {
+        RingFault::NoMemory
+    }
+}
+
+impl From<NoMemory> for RingFault {
+    ghost from_gives = { λ _ fault. fault ≡ WantOfMemory };
+
+    fn from(_refused: NoMemory) -> RingFault {
+        RingFault::NoMemory
+    }
 }

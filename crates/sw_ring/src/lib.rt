@@ -4,7 +4,6 @@
 mod cluster;
 mod fault;
 mod members;
-mod rules;
 
-pub use crate::cluster::{Cluster, Device};
+pub use crate::cluster::Device;
 pub use crate::fault::{Member, RingFault};
