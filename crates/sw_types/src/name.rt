@@ -5,8 +5,9 @@ ghost use Rattle.std.proofs.Common.{rules};
 ghost use Rattle.std.specs.Cmp.Rules.{comparing};
 ghost use Rattle.std.specs.List.{list_any};
 ghost use Rattle.std.specs.Str.{is_utf8};
-ghost use Rattle.sw_types.specs.Name.{Parts, most_bytes, may_hold_slash, name_eq, part_fault, name_fault};
+ghost use Rattle.sw_types.specs.Name.{Parts, most_bytes, may_hold_slash, name_eq, part_fault, name_fault, path_of};
 
+use crate::{Bytes, NoMemory};
 use std::alloc::{AllocError, Global};
 use std::marker::Model;
 use thiserror::Error;
@@ -134,6 +135,14 @@ impl Name {
         let container = Part::Container.read(container)?;
         let object = Part::Object.read(object)?;
         Name::from_texts(alloc, account, container, object).map_err(|_| NameFault::NoMemory)
+    }
+
+    /// Its path, `/ACCOUNT/CONTAINER/OBJECT`.
+    pub fn path(&self, alloc: Global) -> Result<Bytes, NoMemory>
+        ensures { IfOk result (λ path. path ≡ path_of self.now) }
+    {
+        let path = format!(in alloc; "/{}/{}/{}", self.account, self.container, self.object)?;
+        Ok(Bytes::from(path.into_bytes()))
     }
 
     fn from_texts(

@@ -1,4 +1,4 @@
-//! Stamps, hex texts, names and bytes.
+//! Stamps, hex texts, names, policies and bytes.
 
 use super::NameFault::{Empty, NotUtf8, Nul, Slash, TooLong};
 use super::Part::{Account, Container, Object};
@@ -97,6 +97,52 @@ fn compares_each_part_of_a_name(rt: HostRuntime) -> Result<(), Fail> {
         )?;
         assert_ne!(rt; other, name);
     }
+    Ok(())
+}
+
+#[test]
+fn puts_each_part_behind_a_slash(rt: HostRuntime) -> Result<(), Fail> {
+    let alloc = rt.alloc();
+    let path = Name::make(alloc, b"a", b"c", b"o")?.path(alloc)?;
+    assert_eq!(rt; path.as_slice(), b"/a/c/o".as_slice());
+    Ok(())
+}
+
+#[test]
+fn names_the_first_broken_bound(rt: HostRuntime) {
+    let most = u32::MAX;
+    let cases = [
+        ((2, 1, 3, 2, 1_048_576), None),
+        ((8, 24, 32, 32, 4_194_304), None),
+        ((0, 1, 3, 2, 1_048_576), Some(PolicyFault::K(0))),
+        ((2, 0, 3, 2, 1_048_576), Some(PolicyFault::M(0))),
+        ((2, 7, 3, 2, 1_048_576), Some(PolicyFault::M(7))),
+        ((30, 3, 30, 2, 1_048_576), Some(PolicyFault::N(33))),
+        ((2, 1, 1, 1, 1_048_576), Some(PolicyFault::Q(1))),
+        ((2, 1, 4, 2, 1_048_576), Some(PolicyFault::Q(4))),
+        ((2, 1, 3, 0, 1_048_576), Some(PolicyFault::C(0))),
+        ((2, 1, 3, 4, 1_048_576), Some(PolicyFault::C(4))),
+        ((2, 1, 3, 2, 1), Some(PolicyFault::Segment(1))),
+        (
+            (2, 1, 3, 2, 4_194_305),
+            Some(PolicyFault::Segment(4_194_305)),
+        ),
+        (
+            (most, most, most, most, most),
+            Some(PolicyFault::N(8_589_934_590)),
+        ),
+    ];
+    for ((k, m, q, c, segment), want) in cases {
+        assert_eq!(rt; Policy::make(k, m, q, c, segment).err(), want);
+    }
+}
+
+#[test]
+fn keeps_the_numbers_of_a_policy(rt: HostRuntime) -> Result<(), Fail> {
+    let policy = Policy::make(4, 2, 5, 3, 65_536)?;
+    assert_eq!(rt; (policy.k(), policy.m()), (4, 2));
+    assert_eq!(rt; (policy.q(), policy.c()), (5, 3));
+    assert_eq!(rt; policy.segment(), 65_536);
     Ok(())
 }
 
