@@ -6,12 +6,13 @@ use Rattle.serde_json.specs.Data.{Data}
 use Rattle.serde_json.specs.Read.{read as read_text}
 use Rattle.sw_ring.specs.declared.fault.RingFault.{RingFault}
 use Rattle.sw_ring.specs.declared.fault.RingFault.TheVariants.{NotJson}
-use Rattle.sw_ring.specs.Fields.{Fields, fields_of}
+use Rattle.sw_ring.specs.Fields.{◌>>=◌, Fields, fields_of}
 use Rattle.sw_ring.specs.Ring.{is_among, ring_fault}
 
-abbrev pub value_of : Option Data → Result Fields RingFault
-value_of None = Err NotJson
-value_of (Some value) = fields_of value
+-- the value of a text, where it is JSON
+abbrev pub json_of : Option Data → Result Data RingFault
+json_of None = Err NotJson
+json_of (Some value) = Ok value
 
 abbrev pub no_fault : Option RingFault → Fields → Result Fields RingFault
 no_fault None fields = Ok fields
@@ -21,9 +22,13 @@ abbrev pub keeping_rules : Result Fields RingFault → Result Fields RingFault
 keeping_rules (Err fault) = Err fault
 keeping_rules (Ok fields) = no_fault (ring_fault fields) fields
 
+-- what the members of a text say
+abbrev pub fields_in : List ℕ → Result Fields RingFault
+fields_in text = json_of (if is_utf8 text then read_text text else None) >>= fields_of
+
 -- what a text says, or the first rule that it breaks
 abbrev pub ring_of : List ℕ → Result Fields RingFault
-ring_of text = keeping_rules (value_of (if is_utf8 text then read_text text else None))
+ring_of text = keeping_rules (fields_in text)
 
 -- the same with the devices in ascending order of their ids
 pub record IsCluster (fields cluster : Fields) : Type 0 where

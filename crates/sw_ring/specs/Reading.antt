@@ -5,7 +5,8 @@ use Rattle.sw_ring.specs.declared.cluster.Device.{Device}
 use Rattle.sw_ring.specs.declared.fault.RingFault.{RingFault}
 use Rattle.sw_ring.specs.declared.fault.RingFault.TheVariants.{NoMemory}
 use Rattle.sw_ring.specs.declared.members.PolicyNumbers.{PolicyNumbers}
-use Rattle.sw_ring.specs.Fields.{DeviceNumbers}
+use Rattle.sw_ring.specs.declared.reading.Members.{Members}
+use Rattle.sw_ring.specs.Fields.{DeviceNumbers, Fields}
 
 -- a call's value, seen by view, or its fault is what reading gives, unless memory ran out
 abbrev pub Gives : {X Y : Type 0} → (X → Y) → Result X RingFault → Result Y RingFault → Type 0
@@ -17,3 +18,9 @@ device_numbers device = record { id = device.id; capacity = device.capacity }
 
 abbrev pub policy_numbers : PolicyNumbers → Numbers
 policy_numbers p = record { k = p.k; m = p.m; q = p.q; c = p.c; segment = p.segment }
+
+abbrev pub members_seen : Members → Fields
+members_seen f = record {
+    part_power = f.part_power; prefix = string_bytes f.prefix; suffix = string_bytes f.suffix;
+    policy = policy_numbers f.numbers; devices = map device_numbers f.devices.items; rows = map (λ row. row.items) f.rows.items;
+  }

@@ -60,15 +60,18 @@ abbrev pub if_some : {A : Type 0} → (A → RingFault) → Option A → Option 
 if_some fault None = None
 if_some fault (Some value) = Some (fault value)
 
+-- the first rule that the rows break, for devices of these ids
+unfoldable pub rows_fault : List ℕ → ℕ → ℕ → List (List ℕ) → Option RingFault
+rows_fault ids total places rows =
+    or_first (if length rows == total then None else Some (RowCount (length rows)))
+      (or_first (if_some RowLength (odd_row 0 places rows))
+        (or_first (if_some UnknownDevice (unknown_device ids rows)) (if_some (λ twice. SameDeviceTwice twice.part twice.id) (twice_after [] rows))))
+
 -- the first rule that the members break
 unfoldable pub ring_fault : Fields → Option RingFault
 ring_fault f =
     let ids = map (λ device. device.id) f.devices in
-    let total = f.policy.k + f.policy.m in
     or_first (if nat_lt 16 f.part_power then Some (PartPower f.part_power) else None)
       (or_first (if_some Policy (policy_fault f.policy))
         (or_first (if nat_lt 64 (length f.devices) then Some (TooManyDevices (length f.devices)) else None)
-          (or_first (if_some DuplicateDevice (duplicate_after [] ids))
-            (or_first (if length f.rows == total then None else Some (RowCount (length f.rows)))
-              (or_first (if_some RowLength (odd_row 0 (2 ^ f.part_power) f.rows))
-                (or_first (if_some UnknownDevice (unknown_device ids f.rows)) (if_some (λ twice. SameDeviceTwice twice.part twice.id) (twice_after [] f.rows))))))))
+          (or_first (if_some DuplicateDevice (duplicate_after [] ids)) (rows_fault ids (f.policy.k + f.policy.m) (2 ^ f.part_power) f.rows))))

@@ -3,7 +3,10 @@
 
 mod cluster;
 mod fault;
+mod lists;
 mod members;
+mod reading;
+mod rules;
 
 pub use crate::cluster::Device;
 pub use crate::fault::{Member, RingFault};

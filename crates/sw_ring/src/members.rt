@@ -1,17 +1,15 @@
 //! The members of a ring's JSON object.
 
-ghost use Rattle.std.specs.Prelude.{◌≡◌, ◌+◌, ◌≤◌, ◌^◌, [], map, codes, IfOk, IfSome, MatchResult, Err, Ok, option_map, string_bytes};
+ghost use Rattle.std.specs.Prelude.{◌≡◌, ◌+◌, ◌≤◌, ◌^◌, [], codes, IfSome, MatchResult, Err, Ok, option_map, string_bytes};
 ghost use Rattle.serde_json.specs.Find.{get_member};
 ghost use Rattle.serde_json.specs.View.{members_view, view};
-ghost use Rattle.sw_ring.specs.Fields.{device_of, field, list_of, not_empty, optional, policy_by, required, short_text, whole_below};
-ghost use Rattle.sw_ring.specs.Reading.{Gives, device_numbers, policy_numbers};
+ghost use Rattle.sw_ring.specs.Fields.{field, optional, policy_by, required, short_text, whole_below};
+ghost use Rattle.sw_ring.specs.Reading.{Gives, policy_numbers};
 ghost use Rattle.sw_ring.specs.declared.fault.Member.TheVariants as name;
 
-use crate::cluster::Device;
 use crate::fault::{Member, RingFault};
 use serde_json::{Map, Value};
 use std::alloc::Global;
-use sw_types::NoMemory;
 
 /// The numbers of a policy, whether or not they keep its bounds.
 #[derive(Clone, Copy, Debug)]
@@ -23,14 +21,14 @@ pub(crate) struct PolicyNumbers {
     pub(crate) segment: u32,
 }
 
-fn member<'v>(members: &'v Map<String, Value>, name: &str) -> Option<&'v Value>
+pub(crate) fn member<'v>(members: &'v Map<String, Value>, name: &str) -> Option<&'v Value>
     ensures { option_map (λ value. view value.now) result ≡ get_member name.now (members_view members.now.entries) }
 {
     members.get(name)
 }
 
 // A whole number of at most `most`.
-fn whole(value: &Value, most: u64) -> Option<u64>
+pub(crate) fn whole(value: &Value, most: u64) -> Option<u64>
     ensures number { result ≡ whole_below (most + 1) (view value.now) }
     ensures bound { IfSome result (λ number. number ≤ most) }
 {
@@ -40,14 +38,14 @@ fn whole(value: &Value, most: u64) -> Option<u64>
     }
 }
 
-fn required_whole(members: &Map<String, Value>, name: &str, most: u64) -> Option<u64>
+pub(crate) fn required_whole(members: &Map<String, Value>, name: &str, most: u64) -> Option<u64>
     ensures number { result ≡ required (whole_below (most + 1)) (get_member name.now (members_view members.now.entries)) }
     ensures bound { IfSome result (λ number. number ≤ most) }
 {
     whole(member(members, name)?, most)
 }
 
-fn optional_whole(
+pub(crate) fn optional_whole(
     members: &Map<String, Value>,
     name: &str,
     most: u64,
@@ -145,17 +143,4 @@ pub(crate) fn text(
             None => Err(RingFault::Field(named)),
         },
     }
-}
-
-fn device(value: &Value) -> Option<Device>
-    ensures { option_map device_numbers result ≡ device_of (view value.now) }
-{
-    let members = value.as_object()?;
-    let id = required_whole(members, "id", 65_535)?;
-    let capacity =
-        optional_whole(members, "capacity", 9_223_372_036_854_775_807, 1_073_741_824)?;
-    Some(Device {
-        id: id as u16,
-        capacity,
-    })
 }
