@@ -1,11 +1,19 @@
 //! The rules of a ring: which of them its rows and its devices break.
 
 ghost use Rattle.std.specs.Prelude.{◌≡◌, ◌≤◌, ◌+◌, ◌^◌, ◌⊎◌, [], map, IfErr, IfOk, MatchResult, None, Some, option_map, slice_get};
+ghost use Rattle.sw_types.specs.Policy.{policy_fault};
+ghost use Rattle.sw_ring.specs.Reading.{device_numbers, members_seen, policy_numbers};
 ghost use Rattle.sw_ring.specs.Ring.{duplicate_after, has_at, is_among, odd_row, option_is, ring_fault, rows_fault, twice_after, twice_in, unknown_device, unknown_in};
 
+use crate::cluster::Device;
 use crate::fault::RingFault;
+use crate::members::PolicyNumbers;
+use crate::reading::Members;
+use std::alloc::Global;
+use sw_types::{NoMemory, Policy, PolicyFault};
 
 /// The first id that an earlier device has.
+#[tactic(auto, using(crate::proofs::Earlier::duplicate_step))]
 pub(crate) fn duplicate(ids: &[u16]) -> Option<u16>
     ensures { result ≡ duplicate_after [] ids.now }
 {
@@ -118,5 +126,49 @@ pub(crate) fn rows_fault(
     match twice(rows) {
         Some((part, id)) => Some(RingFault::SameDeviceTwice(part, id)),
         None => None,
+    }
+}
+
+// The ids of devices, in their order.
+fn ids(alloc: Global, devices: &[Device]) -> Result<Vec<u16>, NoMemory>
+    ensures { IfOk result (λ ids. ids.items ≡ map (λ device. device.id) (map device_numbers devices.now)) }
+{
+    let ids = devices.iter().map(|device| device.id).collect(alloc)?;
+    Ok(ids)
+}
+
+fn policy_of(numbers: &PolicyNumbers) -> Result<Policy, PolicyFault>
+    ensures { MatchResult result
+        (λ policy. (policy_fault (policy_numbers numbers.now) ≡ None) × (policy ≡ policy_numbers numbers.now))
+        (λ fault. policy_fault (policy_numbers numbers.now) ≡ Some fault) }
+{
+    Policy::make(numbers.k, numbers.m, numbers.q, numbers.c, numbers.segment)
+}
+
+/// The policy of members that break no rule, or the first rule that they break.
+#[tactic(auto, unfolding(crate::specs::Ring::ring_fault))]
+pub(crate) fn check(alloc: Global, members: &Members) -> Result<Policy, RingFault>
+    ensures { MatchResult result
+        (λ policy. (ring_fault (members_seen members.now) ≡ None) × (policy ≡ policy_numbers members.now.numbers))
+        (λ fault. (fault ≡ RingFault.NoMemory) ⊎ (ring_fault (members_seen members.now) ≡ Some fault)) }
+{
+    if members.part_power > 16 {
+        return Err(RingFault::PartPower(members.part_power));
+    }
+    let policy = match policy_of(&members.numbers) {
+        Ok(policy) => policy,
+        Err(fault) => return Err(RingFault::Policy(fault)),
+    };
+    if members.devices.len() > 64 {
+        return Err(RingFault::TooManyDevices(members.devices.len()));
+    }
+    let ids = ids(alloc, &members.devices)?;
+    if let Some(id) = duplicate(&ids) {
+        return Err(RingFault::DuplicateDevice(id));
+    }
+    let total = policy.k() as usize + policy.m() as usize;
+    match rows_fault(&ids, total, 1 << members.part_power, &members.rows) {
+        Some(fault) => Err(fault),
+        None => Ok(policy),
     }
 }
