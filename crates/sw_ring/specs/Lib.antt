@@ -1,4 +1,5 @@
 pub mod Cluster
 pub mod Fields
+pub mod Inside
 pub mod Reading
 pub mod Ring

@@ -2,11 +2,13 @@
 #![tactic(auto)]
 
 mod cluster;
+mod columns;
 mod fault;
 mod lists;
 mod members;
 mod reading;
 mod rules;
+mod sorting;
 
-pub use crate::cluster::Device;
+pub use crate::cluster::{Cluster, Device};
 pub use crate::fault::{Member, RingFault};

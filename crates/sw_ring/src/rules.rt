@@ -61,14 +61,14 @@ fn unknown_device(known: &[u16], rows: &[Vec<u16>]) -> Option<u16>
     None
 }
 
-fn is_at(row: &[u16], part: usize, id: u16) -> bool
+pub(crate) fn is_at(row: &[u16], part: usize, id: u16) -> bool
     ensures { result ≡ option_is (slice_get row.now part) id }
 {
     part < row.len() && row[part] == id
 }
 
-// Whether one of these rows has this device at a partition.
-fn has_at(part: usize, id: u16, rows: &[Vec<u16>]) -> bool
+/// Whether one of these rows has this device at a partition.
+pub(crate) fn has_at(part: usize, id: u16, rows: &[Vec<u16>]) -> bool
     ensures { result ≡ has_at part id (map (λ row. row.items) rows.now) }
 {
     for row in rows {
