@@ -4,3 +4,6 @@
 mod place;
 
 pub use crate::place::{Place, place_name, place_of, read_folder};
+
+#[cfg(test)]
+mod tests;

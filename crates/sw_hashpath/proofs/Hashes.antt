@@ -1,0 +1,70 @@
+-- Hashes, and the digits that they are printed as.
+use Rattle.std.proofs.Common.{◌≡◌, ℕ, ◌-◌, ◌*◌, ◌<◌, ◌≤◌, nat_lt, true, List, [], ◌∷◌, ◌++◌, length, take, drop, Result, Ok, Err, codes, refl, sym, ap, ◌∙◌, arith, append_assoc, length-append}
+use Rattle.std.specs.Prelude.{MatchResult, ◌↔◌}
+use Rattle.std.specs.Fmt.{decimal}
+use Rattle.std.proofs.lemmas.List.{append_cancel_left, append_cancel_right, drop_at, length-drop, take_all}
+use Rattle.std.proofs.lemmas.Bool.{ltb-true}
+use Rattle.std.proofs.lemmas.List.Elements.{All-weaker}
+use Rattle.std.proofs.lemmas.List.Sums.{AllPass-from_list_all}
+use Rattle.std.proofs.lemmas.Str.{IsCharBoundary-from_ascii}
+use Rattle.std.proofs.lemmas.Str.Ascii.{IsAscii-from_all}
+use Rattle.std.specs.Str.{IsAscii, IsCharBoundary}
+use Rattle.hex.specs.Hex.{decode_sized, encode_lower, lower_digits}
+use Rattle.hex.specs.declared.error.FromHexError.{FromHexError}
+use Rattle.hex.proofs.HexLemmas.{IsAscii-encode_with, decode_of-encode_lower, decode_sized-twice, length-encode_with}
+use Rattle.sw_words.specs.Bytes.{IsBytes}
+use Rattle.sw_hashpath.specs.Place.{IsSpot, Spot, folder_of, part_of, spot_of, suffix_of}
+
+-- a text that ends with the digits of a hash
+digits_at_end : (text front hash : List ℕ) → length hash ≡ 16 → text ≡ front ++ encode_lower hash → drop (length text - 32) text ≡ encode_lower hash
+digits_at_end text front hash sixteen ends =
+    let size = length-encode_with lower_digits hash in
+    let place : length front ≡ length text - 32 = omega (arith, ap length ends, length-append front (encode_lower hash)) in
+    ap (λ bytes. drop (length text - 32) bytes) ends ∙ drop_at front (encode_lower hash) (length text - 32) place
+
+-- what is read from the last 32 bytes of such a text is the hash
+pub hash_from_end : (text front hash digits out : List ℕ) (result : Result (Unit {0}) FromHexError) → length hash ≡ 16 → IsBytes hash → text ≡ front ++ encode_lower hash → digits ≡ drop (length text - 32) text → MatchResult (decode_sized digits 16) (λ bytes. (result ≡ Ok tt) × (out ≡ bytes)) (λ fault. result ≡ Err fault) → (result ≡ Ok tt) × (out ≡ hash)
+hash_from_end text front hash digits out result sixteen bytes ends last read =
+    let twice : length (encode_lower hash) ≡ 2 * 16 = omega (arith, length-encode_with lower_digits hash) in
+    let decoded : decode_sized digits 16 ≡ Ok hash =
+    ap (λ text. decode_sized text 16) (last ∙ digits_at_end text front hash sixteen ends) ∙ decode_sized-twice (encode_lower hash) 16 twice ∙ decode_of-encode_lower hash bytes in
+    rw decoded at read
+
+-- a folder ends with the digits of its hash
+pub folder_end : (spot : Spot) → (front : List ℕ) × (folder_of spot ≡ front ++ encode_lower spot.hash)
+folder_end spot =
+    let front = codes "objects/" ++ decimal spot.part ++ 47 ∷ suffix_of spot.hash in
+    (front ++ 47 ∷ [], sym (append_assoc front (47 ∷ []) (encode_lower spot.hash)))
+
+-- a folder tells the place of its hash
+pub folder_of-spot_of : (power : ℕ) (spot : Spot) (hash : List ℕ) → IsSpot power spot → hash ≡ spot.hash → folder_of spot ≡ folder_of (spot_of hash power)
+folder_of-spot_of power spot hash is_spot same =
+    ap (λ part. folder_of (record { part = part; hash = spot.hash })) is_spot.part ∙ ap (λ hash. folder_of (spot_of hash power)) (sym same)
+
+-- each digit is a byte of ASCII
+IsAscii-lower_digits : IsAscii lower_digits
+IsAscii-lower_digits =
+    IsAscii-from_all lower_digits (All-weaker (λ digit. nat_lt digit 128 ≡ true) (λ digit. digit < 128) (λ digit. ltb-true digit 128) lower_digits (AllPass-from_list_all (λ digit. nat_lt digit 128) lower_digits refl))
+
+-- the digits are a text, which may be cut before each
+pub IsCharBoundary-digits : (hash : List ℕ) (place : ℕ) → length hash ≡ 16 → place ≤ 32 → IsCharBoundary (encode_lower hash) place
+IsCharBoundary-digits hash place sixteen within =
+    let size = length-encode_with lower_digits hash in
+    IsCharBoundary-from_ascii (encode_lower hash) place (IsAscii-encode_with lower_digits hash IsAscii-lower_digits) (omega arith)
+
+-- the last three digits, as they are cut off
+pub suffix_of-digits : (hash digits : List ℕ) → length digits ≡ 32 → digits ≡ encode_lower hash → take 3 (drop 29 digits) ≡ suffix_of hash
+suffix_of-digits hash digits whole same =
+    take_all 3 (drop 29 digits) (omega (arith, length-drop 29 digits)) ∙ ap (λ text. drop 29 text) same
+
+-- a folder without its last part
+pub folder_front : (text rest front part suffix digits : List ℕ) → text ≡ codes "objects/" ++ rest → rest ≡ front ++ 47 ∷ digits → text ≡ codes "objects/" ++ part ++ 47 ∷ suffix ++ 47 ∷ digits → front ≡ part ++ 47 ∷ suffix
+folder_front text rest front part suffix digits after before whole =
+    append_cancel_right front (part ++ 47 ∷ suffix) (47 ∷ digits) (sym before ∙ append_cancel_left (codes "objects/") rest (part ++ 47 ∷ suffix ++ 47 ∷ digits) (sym after ∙ whole))
+
+-- a text in three parts is a folder where its first part is that of the folder
+pub folder_by_parts : (text rest front part first suffix digits : List ℕ) → text ≡ codes "objects/" ++ rest → rest ≡ front ++ 47 ∷ digits → front ≡ first ++ 47 ∷ suffix → (text ≡ codes "objects/" ++ part ++ 47 ∷ suffix ++ 47 ∷ digits) ↔ (first ≡ part)
+folder_by_parts text rest front part first suffix digits after before cut = (
+  λ whole. append_cancel_right first part (47 ∷ suffix) (sym cut ∙ folder_front text rest front part suffix digits after before whole),
+  λ same. after ∙ ap (λ rest. codes "objects/" ++ rest) (before ∙ ap (λ front. front ++ 47 ∷ digits) (cut ∙ ap (λ first. first ++ 47 ∷ suffix) same)),
+)

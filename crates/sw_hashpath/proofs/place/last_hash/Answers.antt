@@ -1,0 +1,21 @@
+use Rattle.std.proofs.Common.{Some, ap, ◌∙◌, arith, length, length-append}
+use Rattle.std.specs.Result.{result_ok}
+use Rattle.std.proofs.lemmas.Option.{none-some}
+use Rattle.hex.specs.Hex.{encode_lower, lower_digits}
+use Rattle.hex.proofs.HexLemmas.{length-encode_with}
+use Rattle.sw_hashpath.proofs.Hashes.{hash_from_end}
+use Rattle.sw_hashpath.proofs.place.last_hash.Goals as goal
+
+pub returns-in_err-digits : goal.returns-in_err-digits
+returns-in_err-digits c = λ front hash sixteen bytes ends.
+    let size = length-encode_with lower_digits hash in
+    absurd (omega (arith, c.in_err-digits.ensures.cases, ap length ends, length-append front (encode_lower hash)))
+
+pub returns-in_err-ok : goal.returns-in_err-ok
+returns-in_err-ok c = λ front hash sixteen bytes ends.
+    let read = hash_from_end c.args.text.now front hash _ _ _ sixteen bytes ends c.in_ok-digits.ensures.cases.1.same c.decode_to_slice.ensures.value in
+    absurd (none-some tt (c.in_err-ok.ensures.value ∙ ap result_ok read.0))
+
+pub returns : goal.returns
+returns c = λ front hash sixteen bytes ends.
+    ap Some (hash_from_end c.args.text.now front hash _ _ _ sixteen bytes ends c.in_ok-digits.ensures.cases.1.same c.decode_to_slice.ensures.value).1
