@@ -1,6 +1,7 @@
 //! A cluster, and what it says of its partitions.
 
 ghost use Rattle.std.specs.Prelude.{◌≡◌, ◌⊎◌, ◌+◌, ◌^◌, ◌<◌, false, None, Ok, Err, Some, IfErr, IfOk, IfSome, IfNone, map, slice_get, slice_index};
+ghost use Rattle.sw_hashpath.specs.Place.{hash_of, spot_of};
 ghost use Rattle.sw_ring.specs.Cluster.{IsCluster, column_of, handoffs_of, ring_of};
 ghost use Rattle.sw_ring.specs.Fields.{Fields};
 ghost use Rattle.sw_ring.specs.Reading.{members_seen, policy_numbers};
@@ -13,7 +14,8 @@ use crate::rules::check;
 use crate::sorting::sort_by_id;
 use std::alloc::Global;
 use std::marker::Model;
-use sw_types::{NoMemory, Policy};
+use sw_hashpath::{Place, place_name};
+use sw_types::{Name, NoMemory, Policy};
 
 /// A device, and how many bytes its disk has.
 #[derive(Clone, Copy, Debug)]
@@ -127,5 +129,14 @@ impl Cluster {
         ensures { IfOk result (λ devices. devices.items ≡ handoffs_of self.now part) }
     {
         absent(alloc, &self.devices, &self.rows, part as usize)
+    }
+
+    /// The place of a name.
+    pub fn place(&self, alloc: Global, name: &Name) -> Result<Place, NoMemory>
+        ensures { IfOk result (λ place. place ≡ spot_of (hash_of name.now self.now.prefix self.now.suffix) self.now.part_power) }
+    {
+        let prefix = self.prefix.as_bytes();
+        let suffix = self.suffix.as_bytes();
+        place_name(alloc, name, prefix, suffix, self.part_power)
     }
 }

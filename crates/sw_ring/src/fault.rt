@@ -60,6 +60,29 @@ pub enum RingFault {
     NoMemory,
 }
 
+impl RingFault {
+    ghost use Rattle.sw_ring.specs.Numbered.{number_of};
+
+    /// The number by which an answer names this fault: 0 for want of memory, and 1 to 10 for what is wrong with the text.
+    pub fn number(&self) -> u8
+        ensures { result ≡ number_of self.now }
+    {
+        match self {
+            RingFault::NoMemory => 0,
+            RingFault::NotJson => 1,
+            RingFault::Field(_) => 2,
+            RingFault::Policy(_) => 3,
+            RingFault::RowCount(_) => 4,
+            RingFault::RowLength(_) => 5,
+            RingFault::UnknownDevice(_) => 6,
+            RingFault::SameDeviceTwice(_, _) => 7,
+            RingFault::PartPower(_) => 8,
+            RingFault::TooManyDevices(_) => 9,
+            RingFault::DuplicateDevice(_) => 10,
+        }
+    }
+}
+
 impl From<AllocError> for RingFault {
     ghost from_gives = { λ _ fault. fault ≡ WantOfMemory };
 
