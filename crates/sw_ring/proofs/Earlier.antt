@@ -17,7 +17,7 @@ duplicate_step ids i within =
     let rest = drop (i + 1) ids in
     at_drop_more (duplicate_after (reverse (take i ids))) ids i 0 within
     ∙ ap (λ b. cond b (Some id) (duplicate_after (id ∷ reverse (take i ids)) rest))
-      (sym (list_any-IsPermutation (λ other. other == id) (take i ids) (reverse (take i ids)) (IsPermutation-reverse (take i ids))))
+    (sym (list_any-IsPermutation (λ other. other == id) (take i ids) (reverse (take i ids)) (IsPermutation-reverse (take i ids))))
     ∙ ap (λ earlier. cond (is_among (take i ids) id) (Some id) (duplicate_after earlier rest)) (sym (reverse_more ids i 0 within))
 
 twice_in_same : (part : ℕ) (xs ys : List (List ℕ)) → IsPermutation xs ys → (row : List ℕ) → twice_in part xs row ≡ twice_in part ys row

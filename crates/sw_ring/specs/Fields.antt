@@ -102,9 +102,13 @@ fields_by members = do
   devices ← field name.Devices (not_empty (required (list_of device_of) (get_member (codes "devices") members)))
   rows ← field name.Rows (required (list_of (list_of (whole_below 65536))) (get_member (codes "rows") members))
   Ok (record {
-      part_power = part_power; prefix = prefix; suffix = suffix;
-      policy = policy; devices = devices; rows = rows;
-    })
+    part_power = part_power;
+    prefix = prefix;
+    suffix = suffix;
+    policy = policy;
+    devices = devices;
+    rows = rows;
+  })
 
 -- what a value says, if it is an object
 abbrev pub fields_of : Data → Result Fields RingFault

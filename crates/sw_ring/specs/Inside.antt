@@ -7,9 +7,13 @@ use Rattle.sw_ring.specs.Reading.{device_numbers}
 
 abbrev pub cluster_seen : Inside → Fields
 cluster_seen c = record {
-    part_power = c.part_power; prefix = string_bytes c.prefix; suffix = string_bytes c.suffix;
-    policy = c.policy; devices = map device_numbers c.devices.items; rows = map (λ row. row.items) c.rows.items;
-  }
+  part_power = c.part_power;
+  prefix = string_bytes c.prefix;
+  suffix = string_bytes c.suffix;
+  policy = c.policy;
+  devices = map device_numbers c.devices.items;
+  rows = map (λ row. row.items) c.rows.items;
+}
 
 -- there are at most 2^16 partitions, the policy keeps its bounds, and each fragment has a row with a place for each partition
 pub record IsSound (cluster : Fields) : Type 0 where

@@ -21,6 +21,10 @@ policy_numbers p = record { k = p.k; m = p.m; q = p.q; c = p.c; segment = p.segm
 
 abbrev pub members_seen : Members → Fields
 members_seen f = record {
-    part_power = f.part_power; prefix = string_bytes f.prefix; suffix = string_bytes f.suffix;
-    policy = policy_numbers f.numbers; devices = map device_numbers f.devices.items; rows = map (λ row. row.items) f.rows.items;
-  }
+  part_power = f.part_power;
+  prefix = string_bytes f.prefix;
+  suffix = string_bytes f.suffix;
+  policy = policy_numbers f.numbers;
+  devices = map device_numbers f.devices.items;
+  rows = map (λ row. row.items) f.rows.items;
+}

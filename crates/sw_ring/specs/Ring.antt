@@ -64,14 +64,14 @@ if_some fault (Some value) = Some (fault value)
 unfoldable pub rows_fault : List ℕ → ℕ → ℕ → List (List ℕ) → Option RingFault
 rows_fault ids total places rows =
     or_first (if length rows == total then None else Some (RowCount (length rows)))
-      (or_first (if_some RowLength (odd_row 0 places rows))
-        (or_first (if_some UnknownDevice (unknown_device ids rows)) (if_some (λ twice. SameDeviceTwice twice.part twice.id) (twice_after [] rows))))
+    (or_first (if_some RowLength (odd_row 0 places rows))
+    (or_first (if_some UnknownDevice (unknown_device ids rows)) (if_some (λ twice. SameDeviceTwice twice.part twice.id) (twice_after [] rows))))
 
 -- the first rule that the members break
 unfoldable pub ring_fault : Fields → Option RingFault
 ring_fault f =
     let ids = map (λ device. device.id) f.devices in
     or_first (if nat_lt 16 f.part_power then Some (PartPower f.part_power) else None)
-      (or_first (if_some Policy (policy_fault f.policy))
-        (or_first (if nat_lt 64 (length f.devices) then Some (TooManyDevices (length f.devices)) else None)
-          (or_first (if_some DuplicateDevice (duplicate_after [] ids)) (rows_fault ids (f.policy.k + f.policy.m) (2 ^ f.part_power) f.rows))))
+    (or_first (if_some Policy (policy_fault f.policy))
+    (or_first (if nat_lt 64 (length f.devices) then Some (TooManyDevices (length f.devices)) else None)
+    (or_first (if_some DuplicateDevice (duplicate_after [] ids)) (rows_fault ids (f.policy.k + f.policy.m) (2 ^ f.part_power) f.rows))))

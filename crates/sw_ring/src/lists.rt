@@ -15,6 +15,7 @@ use std::alloc::Global;
 use sw_types::NoMemory;
 
 const MOST_CAPACITY: u64 = 9_223_372_036_854_775_807;
+
 const USUAL_CAPACITY: u64 = 1_073_741_824;
 
 fn device_id(value: &Value) -> Option<u16>
@@ -90,10 +91,7 @@ fn row_list(alloc: Global, value: &Value) -> Result<Option<Vec<Vec<u16>>>, NoMem
 }
 
 /// The devices, of which there is one at least.
-pub(crate) fn devices(
-    alloc: Global,
-    members: &Map<String, Value>,
-) -> Result<Vec<Device>, RingFault>
+pub(crate) fn devices(alloc: Global, members: &Map<String, Value>) -> Result<Vec<Device>, RingFault>
     ensures { Gives (λ devices. map device_numbers devices.items) result
         (field name.Devices (not_empty (required (list_of device_of) (get_member (codes "devices") (members_view members.now.entries))))) }
 {
@@ -107,10 +105,7 @@ pub(crate) fn devices(
 }
 
 /// The rows, each a list of ids.
-pub(crate) fn rows(
-    alloc: Global,
-    members: &Map<String, Value>,
-) -> Result<Vec<Vec<u16>>, RingFault>
+pub(crate) fn rows(alloc: Global, members: &Map<String, Value>) -> Result<Vec<Vec<u16>>, RingFault>
     ensures { Gives (λ rows. map (λ row. row.items) rows.items) result
         (field name.Rows (required (list_of (list_of (whole_below 65536))) (get_member (codes "rows") (members_view members.now.entries)))) }
 {

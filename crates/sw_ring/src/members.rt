@@ -61,11 +61,7 @@ pub(crate) fn optional_whole(
     }
 }
 
-fn required_u32(
-    members: &Map<String, Value>,
-    name: &str,
-    named: Member,
-) -> Result<u32, RingFault>
+fn required_u32(members: &Map<String, Value>, name: &str, named: Member) -> Result<u32, RingFault>
     ensures { result ≡ field named (required (whole_below (2 ^ 32)) (get_member name.now (members_view members.now.entries))) }
 {
     match required_whole(members, name, u64::from(u32::MAX)) {

@@ -36,7 +36,9 @@ returns c =
     let moved = rw c.deref_mut.ensures.value at c.sort_by_id.ensures.permutation in
     let differ = IsDistinct-IsPermutation eqb flips _ _ (IsPermutation-map (λ (device : DeviceNumbers). device.id) _ _ moved) (distinct _ kept.ids) in
     record {
-      part_power = refl; prefix = refl; suffix = refl;
+      part_power = refl;
+      prefix = refl;
+      suffix = refl;
       policy = c.requires.policy;
       rows = refl;
       devices = rw items moved;
