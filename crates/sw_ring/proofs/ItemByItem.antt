@@ -1,0 +1,6 @@
+-- A list that is read item by item: what has been read goes before what is left.
+use Rattle.std.proofs.Common.{List, ◌++◌, Option, Some, None}
+
+abbrev pub with_front : {A : Type 0} → List A → Option (List A) → Option (List A)
+with_front front None = None
+with_front front (Some rest) = Some (front ++ rest)

@@ -1,0 +1,4 @@
+pub mod Earlier
+pub mod ItemByItem
+pub mod Partition
+pub mod Soundness

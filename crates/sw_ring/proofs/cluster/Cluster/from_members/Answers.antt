@@ -1,0 +1,46 @@
+use Rattle.std.proofs.Common.{◌≡◌, ℕ, eqb, length, map, refl, sym, rules, arith}
+use Rattle.std.proofs.lemmas.Bool.Decides.{nat_tests}
+use Rattle.std.proofs.lemmas.List.{with_items_is}
+use Rattle.std.proofs.lemmas.List.Sorted.{IsPermutation-map}
+use Rattle.std.proofs.lemmas.Map.Keys.{IsDistinct-IsPermutation, IsStrictlyIncreasing-from_distinct}
+use Rattle.std.specs.List.{IsDistinct}
+use Rattle.std.specs.List.Sorted.{IsPermutation, IsNonDecreasing, IsStrictlyIncreasing}
+use Rattle.std.specs.Vec.{with_items}
+use Rattle.sw_ring.specs.Fields.{DeviceNumbers}
+use Rattle.sw_ring.specs.Reading.{device_numbers, members_seen}
+use Rattle.sw_ring.proofs.Soundness.{distinct, even_rows, keeps}
+use Rattle.sw_ring.proofs.cluster.Cluster.from_members.Goals as goal
+
+flips : (x y : ℕ) → eqb x y ≡ eqb y x
+flips x y = grind (arith, nat_tests)
+
+pub overflow_cast-result : goal.overflow_cast-result
+overflow_cast-result c =
+    let kept = keeps (members_seen c.args.members) c.requires.kept in
+    omega (arith, kept.part_power)
+
+pub invariant_of-result : goal.invariant_of-result
+invariant_of-result c =
+    let kept = keeps (members_seen c.args.members) c.requires.kept in
+    record {
+      part_power = kept.part_power;
+      policy = rw c.requires.policy kept.policy;
+      rows = rw c.requires.policy kept.rows;
+      places = even_rows 0 _ _ kept.places;
+    }
+
+pub returns : goal.returns
+returns c =
+    let kept = keeps (members_seen c.args.members) c.requires.kept in
+    let items : (with_items c.args.members.devices c.sort_by_id.new.devices).items ≡ c.sort_by_id.new.devices = with_items_is c.args.members.devices c.sort_by_id.new.devices (grind arith) in
+    let moved = rw c.deref_mut.ensures.value at c.sort_by_id.ensures.permutation in
+    let differ = IsDistinct-IsPermutation eqb flips _ _ (IsPermutation-map (λ (device : DeviceNumbers). device.id) _ _ moved) (distinct _ kept.ids) in
+    record {
+      part_power = refl;
+      prefix = refl;
+      suffix = refl;
+      policy = c.requires.policy;
+      rows = refl;
+      devices = rw items moved;
+      ascending = rw items (IsStrictlyIncreasing-from_distinct _ c.sort_by_id.ensures.sorted differ);
+    }

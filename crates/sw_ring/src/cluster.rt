@@ -1,0 +1,142 @@
+//! A cluster, and what it says of its partitions.
+
+ghost use Rattle.std.specs.Prelude.{◌≡◌, ◌⊎◌, ◌+◌, ◌^◌, ◌<◌, false, None, Ok, Err, Some, IfErr, IfOk, IfSome, IfNone, map, slice_get, slice_index};
+ghost use Rattle.sw_hashpath.specs.Place.{hash_of, spot_of};
+ghost use Rattle.sw_ring.specs.Cluster.{IsCluster, column_of, handoffs_of, ring_of};
+ghost use Rattle.sw_ring.specs.Fields.{Fields};
+ghost use Rattle.sw_ring.specs.Reading.{members_seen, policy_numbers};
+ghost use Rattle.sw_ring.specs.Ring.{is_among, ring_fault};
+
+use crate::columns::{absent, index_in, place_in};
+use crate::fault::RingFault;
+use crate::reading::{Members, read_members};
+use crate::rules::check;
+use crate::sorting::sort_by_id;
+use std::alloc::Global;
+use std::marker::Model;
+use sw_hashpath::{Place, place_name};
+use sw_types::{Name, NoMemory, Policy};
+
+/// A device, and how many bytes its disk has.
+#[derive(Clone, Copy, Debug)]
+pub struct Device {
+    pub id: u16,
+    pub capacity: u64,
+}
+
+/// What a ring's text says, where it breaks no rule.
+#[derive(Debug, Drop)]
+pub struct Cluster {
+    part_power: u32,
+    prefix: String,
+    suffix: String,
+    policy: Policy,
+    devices: Vec<Device>,
+    rows: Vec<Vec<u16>>,
+}
+
+impl Model for Cluster {
+    ghost use Rattle.sw_ring.specs.Fields.{Fields};
+
+    ghost Value = { Fields };
+
+    ghost use Rattle.sw_ring.specs.Inside.{IsSound, cluster_seen};
+
+    ghost view = { cluster_seen };
+
+    ghost invariant = { λ cluster. IsSound (cluster_seen cluster) };
+}
+
+impl Cluster {
+    /// The cluster that a ring's text describes, or the first rule that the text breaks.
+    pub fn read(alloc: Global, text: &[u8]) -> Result<Cluster, RingFault>
+        ensures read { IfOk result (λ cluster. (fields : Fields) × (ring_of text.now ≡ Ok fields) × IsCluster fields cluster) }
+        ensures fault { IfErr result (λ fault. (fault ≡ RingFault.NoMemory) ⊎ (ring_of text.now ≡ Err fault)) }
+    {
+        let members = read_members(alloc, text)?;
+        let policy = check(alloc, &members)?;
+        Ok(Cluster::from_members(members, policy))
+    }
+
+    fn from_members(members: Members, policy: Policy) -> Cluster
+        requires kept { ring_fault (members_seen members) ≡ None }
+        requires policy { policy ≡ policy_numbers members.numbers }
+        ensures { IsCluster (members_seen members) result }
+    {
+        let Members {
+            part_power,
+            prefix,
+            suffix,
+            numbers: _,
+            mut devices,
+            rows,
+        } = members;
+        sort_by_id(&mut devices);
+        Cluster {
+            part_power: part_power as u32,
+            prefix,
+            suffix,
+            policy,
+            devices,
+            rows,
+        }
+    }
+
+    /// The numbers of its code and its quorums.
+    pub fn policy(&self) -> &Policy
+        ensures { result.now ≡ self.now.policy }
+    {
+        &self.policy
+    }
+
+    /// The devices, in ascending order of their ids.
+    pub fn devices(&self) -> &[Device]
+        ensures { map (λ device. record { id = device.id; capacity = device.capacity }) result.now ≡ self.now.devices }
+    {
+        &self.devices
+    }
+
+    /// There are 2^part_power partitions, at most 2^16.
+    pub fn part_power(&self) -> u32
+        ensures { result ≡ self.now.part_power }
+    {
+        self.part_power
+    }
+
+    /// The device that keeps the fragments of this index of a partition.
+    pub fn primary(&self, part: u32, index: u32) -> u16
+        requires part { part < 2 ^ self.now.part_power }
+        requires index { index < self.now.policy.k + self.now.policy.m }
+        ensures { result ≡ slice_index (column_of self.now part) index }
+    {
+        place_in(&self.rows, part as usize, index as usize)
+    }
+
+    /// The index whose fragments of a partition the device keeps: none where it keeps none, or there is no such partition.
+    pub fn index_of(&self, part: u32, device: u16) -> Option<u32>
+        ensures found { IfSome result (λ index. (part < 2 ^ self.now.part_power) × (slice_get (column_of self.now part) index ≡ Some device)) }
+        ensures none { IfNone result (part < 2 ^ self.now.part_power → is_among (column_of self.now part) device ≡ false) }
+    {
+        match index_in(&self.rows, part as usize, device) {
+            Some(index) => Some(index as u32),
+            None => None,
+        }
+    }
+
+    /// The devices that are no primaries of a partition, in ascending order.
+    pub fn handoffs(&self, alloc: Global, part: u32) -> Result<Vec<u16>, NoMemory>
+        requires { part < 2 ^ self.now.part_power }
+        ensures { IfOk result (λ devices. devices.items ≡ handoffs_of self.now part) }
+    {
+        absent(alloc, &self.devices, &self.rows, part as usize)
+    }
+
+    /// The place of a name.
+    pub fn place(&self, alloc: Global, name: &Name) -> Result<Place, NoMemory>
+        ensures { IfOk result (λ place. place ≡ spot_of (hash_of name.now self.now.prefix self.now.suffix) self.now.part_power) }
+    {
+        let prefix = self.prefix.as_bytes();
+        let suffix = self.suffix.as_bytes();
+        place_name(alloc, name, prefix, suffix, self.part_power)
+    }
+}

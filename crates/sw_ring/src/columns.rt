@@ -1,0 +1,50 @@
+//! The devices of a partition: the places of the rows under its number.
+
+ghost use Rattle.std.specs.Prelude.{◌≡◌, ◌<◌, [], false, true, filter, map, not, IfNone, IfOk, IfSome, length, slice_get, slice_index, slice_index_or};
+ghost use Rattle.sw_ring.specs.Reading.{device_numbers};
+ghost use Rattle.sw_ring.specs.Ring.{has_at, option_is};
+
+use crate::cluster::Device;
+use crate::rules::{has_at, is_at};
+use std::alloc::Global;
+use sw_types::NoMemory;
+
+/// The device of a row at a partition.
+pub(crate) fn place_in(rows: &[Vec<u16>], part: usize, index: usize) -> u16
+    requires index { index < length rows.now }
+    requires part { part < length (slice_index_or (map (λ row. row.items) rows.now) index []) }
+    ensures { result ≡ slice_index (map (λ row. slice_index row part) (map (λ row. row.items) rows.now)) index }
+{
+    rows[index][part]
+}
+
+/// The first row that has this device at a partition.
+pub(crate) fn index_in(rows: &[Vec<u16>], part: usize, device: u16) -> Option<usize>
+    ensures bound { IfSome result (λ index. index < length rows.now) }
+    ensures found { IfSome result (λ index. option_is (slice_get (slice_index_or (map (λ row. row.items) rows.now) index []) part) device ≡ true) }
+    ensures none { IfNone result (has_at part device (map (λ row. row.items) rows.now) ≡ false) }
+{
+    for (index, row) in rows.iter().enumerate() {
+        if is_at(row, part, device) {
+            return Some(index);
+        }
+    }
+    None
+}
+
+/// The ids of the devices that no row has at a partition.
+pub(crate) fn absent(
+    alloc: Global,
+    devices: &[Device],
+    rows: &[Vec<u16>],
+    part: usize,
+) -> Result<Vec<u16>, NoMemory>
+    ensures { IfOk result (λ ids. ids.items ≡ filter (λ id. not (has_at part id (map (λ row. row.items) rows.now))) (map (λ device. device.id) (map device_numbers devices.now))) }
+{
+    let ids = devices
+        .iter()
+        .map(|device| device.id)
+        .filter(|id| !has_at(part, *id, rows))
+        .collect(alloc)?;
+    Ok(ids)
+}
