@@ -1,10 +1,8 @@
 -- What members that break no rule are like.
-use Rattle.std.proofs.Common.{◌≡◌, ℕ, zero, suc, ◌+◌, ◌^◌, ◌<◌, ◌≤◌, ◌==◌, ◌||◌, eqb, cond, Bool, true, false, nat_lt, List, [], ◌∷◌, length, get_or, map, Option, Some, None, refl, sym, ap, ◌∙◌, ⊎_elim, arith, rules, tests}
-use Rattle.std.proofs.lemmas.Bool.{cases_Bool}
+use Rattle.std.proofs.Common.{◌≡◌, ℕ, zero, suc, ◌+◌, ◌^◌, ◌<◌, ◌≤◌, ◌==◌, ◌||◌, eqb, cond, Bool, true, false, nat_lt, List, [], ◌∷◌, length, get_or, map, Option, Some, None, refl, arith}
 use Rattle.std.proofs.lemmas.Bool.Decides.{nat_tests}
 use Rattle.std.specs.List.{AllByRecursion, IsDistinct}
 use Rattle.sw_types.specs.Policy.{policy_fault}
-use Rattle.sw_types.specs.declared.policy.PolicyFault.{PolicyFault}
 use Rattle.sw_ring.specs.declared.fault.RingFault.{RingFault}
 use Rattle.sw_ring.specs.Fields.{Fields}
 use Rattle.sw_ring.specs.Ring.{duplicate_after, if_some, is_among, odd_row, or_first, ring_fault, rows_fault}

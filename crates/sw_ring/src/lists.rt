@@ -14,10 +14,13 @@ use serde_json::{Map, Value};
 use std::alloc::Global;
 use sw_types::NoMemory;
 
+// The greatest number of bytes of a disk.
 const MOST_CAPACITY: u64 = 9_223_372_036_854_775_807;
 
+// That of a disk whose device names none.
 const USUAL_CAPACITY: u64 = 1_073_741_824;
 
+// An id below 65,536.
 fn device_id(value: &Value) -> Option<u16>
     ensures { result ≡ whole_below 65536 (view value.now) }
 {
@@ -27,6 +30,7 @@ fn device_id(value: &Value) -> Option<u16>
     }
 }
 
+// An object with an id, and with a capacity or without.
 fn device(value: &Value) -> Option<Device>
     ensures { option_map device_numbers result ≡ device_of (view value.now) }
 {

@@ -21,13 +21,14 @@ pub(crate) struct PolicyNumbers {
     pub(crate) segment: u32,
 }
 
+/// The value of the member of this name, if there is one.
 pub(crate) fn member<'v>(members: &'v Map<String, Value>, name: &str) -> Option<&'v Value>
     ensures { option_map (λ value. view value.now) result ≡ get_member name.now (members_view members.now.entries) }
 {
     members.get(name)
 }
 
-// A whole number of at most `most`.
+/// A whole number of at most `most`, written in digits alone.
 pub(crate) fn whole(value: &Value, most: u64) -> Option<u64>
     ensures number { result ≡ whole_below (most + 1) (view value.now) }
     ensures bound { IfSome result (λ number. number ≤ most) }
@@ -38,6 +39,7 @@ pub(crate) fn whole(value: &Value, most: u64) -> Option<u64>
     }
 }
 
+/// A whole number whose member has to be there.
 pub(crate) fn required_whole(members: &Map<String, Value>, name: &str, most: u64) -> Option<u64>
     ensures number { result ≡ required (whole_below (most + 1)) (get_member name.now (members_view members.now.entries)) }
     ensures bound { IfSome result (λ number. number ≤ most) }
@@ -45,6 +47,7 @@ pub(crate) fn required_whole(members: &Map<String, Value>, name: &str, most: u64
     whole(member(members, name)?, most)
 }
 
+/// A whole number, which is `default` where its member is not there.
 pub(crate) fn optional_whole(
     members: &Map<String, Value>,
     name: &str,

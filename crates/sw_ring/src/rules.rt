@@ -61,6 +61,7 @@ fn unknown_device(known: &[u16], rows: &[Vec<u16>]) -> Option<u16>
     None
 }
 
+/// Whether a row has this device at a partition.
 pub(crate) fn is_at(row: &[u16], part: usize, id: u16) -> bool
     ensures { result ≡ option_is (slice_get row.now part) id }
 {

@@ -1,4 +1,4 @@
-use Rattle.std.proofs.Common.{◌≡◌, drop, map}
+use Rattle.std.proofs.Common.{◌≡◌, drop}
 use Rattle.serde_json.specs.View.{items_view}
 use Rattle.sw_ring.specs.Fields.{each_item, whole_below}
 use Rattle.sw_ring.proofs.ItemByItem.{with_front}

@@ -1,13 +1,11 @@
-use Rattle.std.proofs.Common.{◌≡◌, ℕ, eqb, length, map, refl, sym, rules, arith}
+use Rattle.std.proofs.Common.{◌≡◌, ℕ, eqb, refl, arith}
 use Rattle.std.proofs.lemmas.Bool.Decides.{nat_tests}
 use Rattle.std.proofs.lemmas.List.{with_items_is}
 use Rattle.std.proofs.lemmas.List.Sorted.{IsPermutation-map}
 use Rattle.std.proofs.lemmas.Map.Keys.{IsDistinct-IsPermutation, IsStrictlyIncreasing-from_distinct}
-use Rattle.std.specs.List.{IsDistinct}
-use Rattle.std.specs.List.Sorted.{IsPermutation, IsNonDecreasing, IsStrictlyIncreasing}
 use Rattle.std.specs.Vec.{with_items}
 use Rattle.sw_ring.specs.Fields.{DeviceNumbers}
-use Rattle.sw_ring.specs.Reading.{device_numbers, members_seen}
+use Rattle.sw_ring.specs.Reading.{members_seen}
 use Rattle.sw_ring.proofs.Soundness.{distinct, even_rows, keeps}
 use Rattle.sw_ring.proofs.cluster.Cluster.from_members.Goals as goal
 
