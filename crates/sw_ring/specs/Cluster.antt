@@ -1,9 +1,11 @@
 -- A cluster: what a ring's text says, where it breaks no rule.
-use Rattle.std.specs.Prelude.{◌≡◌, ℕ, if◌then◌else◌, List, filter, map, not, slice_index, Option, Some, None, Result, Ok, Err}
+use Rattle.std.specs.Prelude.{◌≡◌, ◌≢◌, ℕ, ◌+◌, ◌^◌, ◌<◌, ◌≤◌, true, if◌then◌else◌, List, [], filter, length, map, not, slice_index, slice_index_or, Option, Some, None, Result, Ok, Err}
+use Rattle.std.specs.List.{All, AllPairs}
 use Rattle.std.specs.List.Sorted.{IsPermutation, IsStrictlyIncreasing}
 use Rattle.std.specs.Str.{is_utf8}
 use Rattle.serde_json.specs.Data.{Data}
 use Rattle.serde_json.specs.Read.{read as read_text}
+use Rattle.sw_types.specs.Policy.{policy_fault}
 use Rattle.sw_ring.specs.declared.fault.RingFault.{RingFault}
 use Rattle.sw_ring.specs.declared.fault.RingFault.TheVariants.{NotJson}
 use Rattle.sw_ring.specs.Fields.{◌>>=◌, Fields, fields_of}
@@ -30,6 +32,9 @@ fields_in text = json_of (if is_utf8 text then read_text text else None) >>= fie
 abbrev pub ring_of : List ℕ → Result Fields RingFault
 ring_of text = keeping_rules (fields_in text)
 
+abbrev pub ids_of : Fields → List ℕ
+ids_of cluster = map (λ device. device.id) cluster.devices
+
 -- the same with the devices in ascending order of their ids
 pub record IsCluster (fields cluster : Fields) : Type 0 where
   pub part_power : cluster.part_power ≡ fields.part_power
@@ -38,7 +43,7 @@ pub record IsCluster (fields cluster : Fields) : Type 0 where
   pub policy : cluster.policy ≡ fields.policy
   pub rows : cluster.rows ≡ fields.rows
   pub devices : IsPermutation fields.devices cluster.devices
-  pub ascending : IsStrictlyIncreasing (map (λ device. device.id) cluster.devices)
+  pub ascending : IsStrictlyIncreasing (ids_of cluster)
 
 -- the devices of a partition, by index
 abbrev pub column_of : Fields → ℕ → List ℕ
@@ -46,4 +51,16 @@ column_of cluster part = map (λ row. slice_index row part) cluster.rows
 
 -- the devices that are none of its primaries, ascending
 abbrev pub handoffs_of : Fields → ℕ → List ℕ
-handoffs_of cluster part = filter (λ id. not (is_among (column_of cluster part) id)) (map (λ device. device.id) cluster.devices)
+handoffs_of cluster part = filter (λ id. not (is_among (column_of cluster part) id)) (ids_of cluster)
+
+-- What the rules give: the policy keeps its bounds, there are at most 64 devices, each once, and each partition has one of
+-- them for each fragment, no two the same.
+pub record KeepsRules (cluster : Fields) : Type 0 where
+  pub part_power : cluster.part_power ≤ 16
+  pub policy : policy_fault cluster.policy ≡ None
+  pub devices : length cluster.devices ≤ 64
+  pub ascending : IsStrictlyIncreasing (ids_of cluster)
+  pub rows : length cluster.rows ≡ cluster.policy.k + cluster.policy.m
+  pub places : (i : ℕ) → i < length cluster.rows → length (slice_index_or cluster.rows i []) ≡ 2 ^ cluster.part_power
+  pub known : (part : ℕ) → part < 2 ^ cluster.part_power → All (λ id. is_among (ids_of cluster) id ≡ true) (column_of cluster part)
+  pub apart : (part : ℕ) → part < 2 ^ cluster.part_power → AllPairs (λ one other. one ≢ other) (column_of cluster part)

@@ -1,3 +1,4 @@
+pub mod BuiltIn
 pub mod Cluster
 pub mod Fields
 pub mod Inside

@@ -1,11 +1,11 @@
 //! A cluster, and what it says of its partitions.
 
-ghost use Rattle.std.specs.Prelude.{◌≡◌, ◌⊎◌, ◌+◌, ◌^◌, ◌<◌, false, None, Ok, Err, Some, IfErr, IfOk, IfSome, IfNone, map, slice_get, slice_index};
+ghost use Rattle.std.specs.Prelude.{◌≡◌, ◌⊎◌, ◌+◌, ◌^◌, ◌<◌, ◌≤◌, ◌==◌, None, Ok, Err, IfErr, IfOk, map, position, slice_index};
 ghost use Rattle.sw_hashpath.specs.Place.{hash_of, spot_of};
-ghost use Rattle.sw_ring.specs.Cluster.{IsCluster, column_of, handoffs_of, ring_of};
+ghost use Rattle.sw_ring.specs.Cluster.{IsCluster, KeepsRules, column_of, handoffs_of, ring_of};
 ghost use Rattle.sw_ring.specs.Fields.{Fields};
 ghost use Rattle.sw_ring.specs.Reading.{members_seen, policy_numbers};
-ghost use Rattle.sw_ring.specs.Ring.{is_among, ring_fault};
+ghost use Rattle.sw_ring.specs.Ring.{ring_fault};
 
 use crate::columns::{absent, index_in, place_in};
 use crate::fault::RingFault;
@@ -40,11 +40,12 @@ impl Model for Cluster {
 
     ghost Value = { Fields };
 
-    ghost use Rattle.sw_ring.specs.Inside.{IsSound, cluster_seen};
+    ghost use Rattle.sw_ring.specs.Cluster.{KeepsRules};
+    ghost use Rattle.sw_ring.specs.Inside.{cluster_seen};
 
     ghost view = { cluster_seen };
 
-    ghost invariant = { λ cluster. IsSound (cluster_seen cluster) };
+    ghost invariant = { λ cluster. KeepsRules (cluster_seen cluster) };
 }
 
 impl Cluster {
@@ -91,7 +92,8 @@ impl Cluster {
 
     /// The devices, in ascending order of their ids.
     pub fn devices(&self) -> &[Device]
-        ensures { map (λ device. record { id = device.id; capacity = device.capacity }) result.now ≡ self.now.devices }
+        ensures listed { map (λ device. record { id = device.id; capacity = device.capacity }) result.now ≡ self.now.devices }
+        ensures rules { KeepsRules self.now }
     {
         &self.devices
     }
@@ -114,8 +116,8 @@ impl Cluster {
 
     /// The index whose fragments of a partition the device keeps: none where it keeps none, or there is no such partition.
     pub fn index_of(&self, part: u32, device: u16) -> Option<u32>
-        ensures found { IfSome result (λ index. (part < 2 ^ self.now.part_power) × (slice_get (column_of self.now part) index ≡ Some device)) }
-        ensures none { IfNone result (part < 2 ^ self.now.part_power → is_among (column_of self.now part) device ≡ false) }
+        ensures index { part < 2 ^ self.now.part_power → result ≡ position (λ id. id == device) (column_of self.now part) }
+        ensures no_part { 2 ^ self.now.part_power ≤ part → result ≡ None }
     {
         match index_in(&self.rows, part as usize, device) {
             Some(index) => Some(index as u32),

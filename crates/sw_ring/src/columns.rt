@@ -1,6 +1,6 @@
 //! The devices of a partition: the places of the rows under its number.
 
-ghost use Rattle.std.specs.Prelude.{◌≡◌, ◌<◌, [], false, true, filter, map, not, IfNone, IfOk, IfSome, length, slice_get, slice_index, slice_index_or};
+ghost use Rattle.std.specs.Prelude.{◌≡◌, ◌<◌, [], filter, map, not, position, IfOk, length, slice_get, slice_index, slice_index_or};
 ghost use Rattle.sw_ring.specs.Reading.{device_numbers};
 ghost use Rattle.sw_ring.specs.Ring.{has_at, option_is};
 
@@ -20,16 +20,9 @@ pub(crate) fn place_in(rows: &[Vec<u16>], part: usize, index: usize) -> u16
 
 /// The first row that has this device at a partition.
 pub(crate) fn index_in(rows: &[Vec<u16>], part: usize, device: u16) -> Option<usize>
-    ensures bound { IfSome result (λ index. index < length rows.now) }
-    ensures found { IfSome result (λ index. option_is (slice_get (slice_index_or (map (λ row. row.items) rows.now) index []) part) device ≡ true) }
-    ensures none { IfNone result (has_at part device (map (λ row. row.items) rows.now) ≡ false) }
+    ensures { result ≡ position (λ row. option_is (slice_get row part) device) (map (λ row. row.items) rows.now) }
 {
-    for (index, row) in rows.iter().enumerate() {
-        if is_at(row, part, device) {
-            return Some(index);
-        }
-    }
-    None
+    rows.iter().position(|row| is_at(row, part, device))
 }
 
 /// The ids of the devices that no row has at a partition.

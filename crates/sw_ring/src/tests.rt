@@ -4,7 +4,7 @@ use crate::RingFault::{
     DuplicateDevice, Field, NotJson, PartPower, Policy, RowCount, RowLength, SameDeviceTwice,
     TooManyDevices, UnknownDevice,
 };
-use crate::{BUILT_IN, Cluster, Member, RingFault};
+use crate::{Cluster, Member, RingFault, built_in};
 use std::alloc::{AllocError, Global};
 use std::process::Abort;
 use std::test::Fail;
@@ -12,7 +12,7 @@ use sw_types::{Name, PolicyFault};
 
 #[test]
 fn reads_the_built_in_text(rt: HostRuntime) -> Result<(), Fail> {
-    let cluster = Cluster::read(rt.alloc(), BUILT_IN)?;
+    let cluster = Cluster::read(rt.alloc(), built_in())?;
     let policy = cluster.policy();
     assert_eq!(rt;
         (policy.q(), policy.c(), policy.segment()),

@@ -1,64 +1,93 @@
--- What the nodes keep of a run.
-use Rattle.std.specs.Prelude.{◌≡◌, ℕ, ◌+◌, ◌≤◌, true, List, [], ◌∷◌, ◌++◌, length, map}
+-- What the nodes keep of a run: each of the put objects the fragment of the index whose primary the node's device is.
+use Rattle.std.specs.Prelude.{◌≡◌, ℕ, ◌+◌, ◌≤◌, ◌==◌, ◌&&◌, true, List, [], ◌∷◌, ◌++◌, find, flat_map, length, map, position, reverse, slice_index, Option, Some, None}
 use Rattle.std.specs.List.{All, range_with_len}
 use Rattle.sw_words.specs.Bytes.{IsBytes}
-use Rattle.sw_types.specs.Name.{Parts}
+use Rattle.sw_types.specs.Name.{Parts, name_eq}
 use Rattle.sw_cauchy.specs.Stripe.{segment_fragment}
+use Rattle.sw_hashpath.specs.Place.{hash_of, part_of}
+use Rattle.sw_ring.specs.Cluster.{KeepsRules, column_of, ids_of}
+use Rattle.sw_ring.specs.Fields.{Fields}
 use Rattle.swift_main.specs.declared.event.Event.{Event}
 use Rattle.swift_main.specs.declared.event.Event.TheVariants as event
+use Rattle.swift_main.specs.declared.node.Node.{Node}
 use Rattle.swift_main.specs.declared.node.Stored.{Stored}
 use Rattle.swift_main.specs.Run.{Put, puts_of}
 
--- what a node keeps of a put: the fragment of the node's index, durable
-abbrev pub stored_of : ℕ → Put → Stored
-stored_of index put = record {
+-- what contracts see of a node: its device, and the fragments that it keeps, the oldest first
+pub record Kept : Type 0 where
+  pub device : ℕ
+  pub entries : List Stored
+
+abbrev pub kept_by : Node → Kept
+kept_by node = record { device = node.device; entries = node.entries.items }
+
+-- the partition of a name, and its devices, by index
+abbrev pub partition : Fields → Parts → ℕ
+partition cluster name = part_of (hash_of name cluster.prefix cluster.suffix) cluster.part_power
+
+abbrev pub primaries : Fields → Parts → List ℕ
+primaries cluster name = column_of cluster (partition cluster name)
+
+-- the fragment of an index, durable, as it is kept of a put
+abbrev pub stored_of : ℕ → Put → ℕ → Stored
+stored_of k put index = record {
   name = put.name;
   stamp = put.stamp;
   index = index;
   length = length put.body;
-  fragment = segment_fragment 2 put.body index;
+  fragment = segment_fragment k put.body index;
   durable = true;
 }
 
--- the three nodes after these puts, each with its entries in their order
-abbrev pub nodes_after : List Put → List (List Stored)
-nodes_after puts = map (λ index. map (stored_of index) puts) (range_with_len 0 3)
+abbrev pub stored_at : ℕ → Put → Option ℕ → List Stored
+stored_at k put None = []
+stored_at k put (Some index) = stored_of k put index ∷ []
 
--- nodes after some puts, which are no more than the operations
-pub record IsPlayed (nodes : List (List Stored)) (operations puts : ℕ) : Type 0 where
+-- what a device keeps of a put
+abbrev pub kept_of : Fields → ℕ → Put → List Stored
+kept_of cluster device put = stored_at cluster.policy.k put (position (λ id. id == device) (primaries cluster put.name))
+
+-- the nodes after these puts, one for each device, each with its entries in their order
+abbrev pub nodes_after : Fields → List Put → List Kept
+nodes_after cluster puts = map (λ id. record { device = id; entries = flat_map (kept_of cluster id) puts }) (ids_of cluster)
+
+abbrev pub entries_of : Option Kept → List Stored
+entries_of None = []
+entries_of (Some node) = node.entries
+
+-- what the node of a device keeps
+abbrev pub entries_at : List Kept → ℕ → List Stored
+entries_at nodes device = entries_of (find (λ node. node.device == device) nodes)
+
+-- the newest durable entry of a name
+abbrev pub newest : Parts → List Stored → Option Stored
+newest name entries = find (λ entry. entry.durable && name_eq entry.name name) (reverse entries)
+
+-- nodes of a cluster after some puts, which are no more than the operations
+pub record IsPlayed (cluster : Fields) (nodes : List Kept) (operations puts : ℕ) : Type 0 where
+  pub rules : KeepsRules cluster
   pub objects : List Put
-  pub stored : nodes ≡ nodes_after objects
+  pub stored : nodes ≡ nodes_after cluster objects
   pub few : puts ≤ operations
 
 -- what contracts see of a world
 pub record State : Type 0 where
-  pub nodes : List (List Stored)
+  pub cluster : Fields
+  pub nodes : List Kept
   pub operations : ℕ
   pub puts : ℕ
 
--- the world is what these events, from an empty world on, lead to
-pub record StandsFor (world : State) (past : List Event) : Type 0 where
-  pub nodes : world.nodes ≡ nodes_after (puts_of past)
+-- the world is what these events, from an empty world of this cluster on, lead to
+pub record StandsFor (cluster : Fields) (world : State) (past : List Event) : Type 0 where
+  pub cluster_is : world.cluster ≡ cluster
+  pub nodes : world.nodes ≡ nodes_after cluster (puts_of past)
   pub operations : world.operations ≡ length past
   pub puts : world.puts ≡ length (puts_of past)
   pub bytes : All (λ put. IsBytes put.body) (puts_of past)
 
--- what the nodes keep of a put, one entry for each node
-abbrev pub entries_of : Put → List Stored
-entries_of put = map (λ index. stored_of index put) (range_with_len 0 3)
-
--- each node with its entry at its end
-abbrev pub kept : List (List Stored) → List Stored → List (List Stored)
-kept [] entries = []
-kept (node ∷ nodes) [] = node ∷ nodes
-kept (node ∷ nodes) (entry ∷ entries) = (node ++ entry ∷ []) ∷ kept nodes entries
-
--- entries of one object, the first of them with this index
-abbrev pub entries_from : ℕ → Parts → ℕ → ℕ → List (List ℕ) → List Stored
-entries_from index name stamp bytes [] = []
-entries_from index name stamp bytes (fragment ∷ fragments) =
-    record { name = name; stamp = stamp; index = index; length = bytes; fragment = fragment; durable = true }
-    ∷ entries_from (index + 1) name stamp bytes fragments
+-- each node with what its device keeps of one put more
+abbrev pub with_put : Fields → Put → List Kept → List Kept
+with_put cluster put nodes = map (λ node. record node { entries = node.entries ++ kept_of cluster node.device put }) nodes
 
 -- the body of a put is a segment or empty
 abbrev pub IsOneSegment : Event → Type 0

@@ -1,5 +1,6 @@
 -- What a script does to a world and to the text of its ends.
 use Rattle.std.specs.Prelude.{◌≡◌, ℕ, ◌≤◌, List, [], ◌∷◌, ◌++◌, length, take, Option, Some, None, Result, Ok, Err}
+use Rattle.sw_ring.specs.Fields.{Fields}
 use Rattle.swift_main.specs.declared.event.Event.{Event}
 use Rattle.swift_main.specs.declared.event.LineFault.{LineFault}
 use Rattle.swift_main.specs.declared.play.PlayEnd.{PlayEnd}
@@ -21,15 +22,15 @@ fault_of (Line line fault) = Some (record { line = line; fault = fault })
 fault_of NoMemory = None
 
 -- These events were done, after those that the world had stood for, and the lines of their ends were written.
-pub record Ran (past events : List Event) (world : State) (old new : List ℕ) : Type 0 where
-  pub stands : StandsFor world (past ++ events)
-  pub text : new ≡ old ++ run_text past events
+pub record Ran (cluster : Fields) (past events : List Event) (world : State) (old new : List ℕ) : Type 0 where
+  pub stands : StandsFor cluster world (past ++ events)
+  pub text : new ≡ old ++ run_text cluster.policy past events
 
 -- Of these events the first so many were done, and of those the lines of the first so many were written.
-pub record RanPart (past events : List Event) (world : State) (old new : List ℕ) : Type 0 where
+pub record RanPart (cluster : Fields) (past events : List Event) (world : State) (old new : List ℕ) : Type 0 where
   pub written : ℕ
   pub done : ℕ
   pub done_before_written : written ≤ done
   pub within : done ≤ length events
-  pub stands : StandsFor world (past ++ take done events)
-  pub text : new ≡ old ++ run_text past (take written events)
+  pub stands : StandsFor cluster world (past ++ take done events)
+  pub text : new ≡ old ++ run_text cluster.policy past (take written events)

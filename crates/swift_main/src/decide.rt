@@ -4,10 +4,12 @@ ghost use Rattle.std.specs.Prelude.{◌≡◌, ◌≢◌, ◌≤◌, [], ◌++�
 ghost use Rattle.swift_main.specs.Answer.{Gives};
 ghost use Rattle.swift_main.specs.Outcome.{is_play, last_line, outcome_of, script_outcome};
 
+use crate::input::{at_empty_line, read_ring};
 use crate::play::{PlayEnd, play};
 use crate::status::Status;
 use crate::world::World;
 use std::alloc::Global;
+use sw_ring::{Cluster, RingFault};
 use sw_types::{Bytes, NoMemory};
 
 /// The greatest number of bytes of the input.
@@ -38,32 +40,28 @@ pub fn decide(alloc: Global, words: &[String], input: &[u8]) -> Answer
     if input.len() > GREATEST_INPUT {
         return last_line_alone(alloc, Status::TooLong);
     }
-    match input.split_first() {
-        None => last_line_alone(alloc, Status::Done),
-        Some((first, script)) => {
-            if *first == b'\n' {
-                run_script(alloc, script)
-            } else {
-                last_line_alone(alloc, Status::Ring)
-            }
-        }
+    let (ring, script) = at_empty_line(input);
+    match read_ring(alloc, ring) {
+        Ok(cluster) => run_script(alloc, cluster, script),
+        Err(RingFault::NoMemory) => last_line_alone(alloc, Status::NoMemory),
+        Err(fault) => last_line_alone(alloc, Status::Ring(fault)),
     }
 }
 
 // The answer of a status that no operation comes before.
 fn last_line_alone(alloc: Global, status: Status) -> Answer
-    ensures { Gives (record { status = status; events = [] }) result }
+    ensures { Gives (record { status = status; ends = [] }) result }
 {
     finish(alloc, status, Bytes::new(alloc))
 }
 
-// The answer to a script, over a fresh world.
-fn run_script(alloc: Global, script: &[u8]) -> Answer
+// The answer to a script, over a fresh world of a cluster.
+fn run_script(alloc: Global, cluster: Cluster, script: &[u8]) -> Answer
     requires { length script.now ≤ 67108864 }
-    ensures { Gives (script_outcome script.now) result }
+    ensures { Gives (script_outcome cluster.policy script.now) result }
 {
     let mut text = Bytes::new(alloc);
-    let Ok(mut world) = World::new(alloc) else {
+    let Ok(mut world) = World::new(alloc, cluster) else {
         return Answer {
             status: Status::NoMemory,
             text,

@@ -1,7 +1,7 @@
 //! How an operation ended, and the line that says it.
 
-ghost use Rattle.std.specs.Prelude.{◌≡◌, ◌++◌, OnOk, OnErr, IfOk};
-ghost use Rattle.swift_main.specs.Run.{end_line, end_text};
+ghost use Rattle.std.specs.Prelude.{◌≡◌, ◌++◌, OnOk, OnErr, IfOk, string_bytes};
+ghost use Rattle.swift_main.specs.Run.{end_line, end_text, indices_text};
 
 use std::alloc::{AllocError, Global};
 use sw_types::{Bytes, NoMemory, Stamp, print_hex};
@@ -9,10 +9,10 @@ use sw_types::{Bytes, NoMemory, Stamp, print_hex};
 /// How an operation ended.
 #[derive(Debug, Drop)]
 pub enum End {
-    /// So many nodes hold a fragment of the object, durable.
+    /// So many nodes hold a fragment of the object, each its own, durable.
     Created { stamp: Stamp, commits: u32 },
-    /// The body of the last put of the name, decoded from the fragments of its stamp.
-    Found { stamp: Stamp, body: Bytes },
+    /// The body of the last put of the name, decoded from the fragments of its stamp of the indices below k.
+    Found { stamp: Stamp, body: Bytes, k: u32 },
     /// The name was not put.
     Absent,
 }
@@ -36,7 +36,7 @@ impl End {
                 let line = format!(in alloc; "e {number} created {stamp} {commits}\n")?;
                 Ok(Bytes::from(line.into_bytes()))
             }
-            End::Found { stamp, body } => found_line(alloc, number, *stamp, body),
+            End::Found { stamp, body, k } => found_line(alloc, number, *stamp, body, *k),
             End::Absent => {
                 let line = format!(in alloc; "e {number} absent\n")?;
                 Ok(Bytes::from(line.into_bytes()))
@@ -45,14 +45,34 @@ impl End {
     }
 }
 
-// The line of a body that was found.
-fn found_line(alloc: Global, number: u64, stamp: Stamp, body: &Bytes) -> Result<Bytes, NoMemory>
-    ensures { IfOk result (λ line. line ≡ end_line number (End.Found stamp body.now)) }
+// The line of a body that was found, decoded from the fragments of the indices below k.
+fn found_line(
+    alloc: Global,
+    number: u64,
+    stamp: Stamp,
+    body: &Bytes,
+    k: u32,
+) -> Result<Bytes, NoMemory>
+    ensures { IfOk result (λ line. line ≡ end_line number (End.Found stamp body.now k)) }
 {
     let front = format!(in alloc; "e {number} found {stamp} ")?;
     let mut line = Bytes::from(front.into_bytes());
     let hex = print_hex(alloc, body.as_slice())?;
     line.extend_from_slice(hex.as_slice())?;
-    line.extend_from_slice(b" 0,1\n")?;
+    let indices = indices(alloc, k)?;
+    let back = format!(in alloc; " {indices}\n")?;
+    line.extend_from_slice(back.as_bytes())?;
     Ok(line)
+}
+
+// The indices below k, with a comma between each two.
+fn indices(alloc: Global, k: u32) -> Result<String, NoMemory>
+    ensures { IfOk result (λ text. string_bytes text ≡ indices_text k) }
+{
+    let mut texts = Vec::new(alloc);
+    for index in 0..k {
+        texts.push(format!(in alloc; "{index}")?)?;
+    }
+    let text = texts.join(alloc, ",")?;
+    Ok(text)
 }

@@ -1,9 +1,8 @@
 //! A node: a plain list of the fragments that it keeps.
 
-ghost use Rattle.std.specs.Prelude.{◌≡◌, ◌&&◌, [], reverse};
-ghost use Rattle.std.specs.List.{find};
+ghost use Rattle.std.specs.Prelude.{◌≡◌, [], IfOk};
 ghost use Rattle.std.specs.Option.{option_copied};
-ghost use Rattle.sw_types.specs.Name.{name_eq};
+ghost use Rattle.swift_main.specs.Nodes.{newest};
 
 use std::alloc::Global;
 use sw_types::{Bytes, Name, NoMemory, Stamp};
@@ -20,25 +19,46 @@ pub struct Stored {
     pub durable: bool,
 }
 
-/// The fragments that a node keeps, the oldest first.
+impl Stored {
+    /// The same entry once more.
+    pub fn copied(&self) -> Result<Stored, NoMemory>
+        ensures { IfOk result (λ copy. copy ≡ self.now) }
+    {
+        let name = self.name.clone()?;
+        let fragment = self.fragment.clone()?;
+        Ok(Stored {
+            name,
+            stamp: self.stamp,
+            index: self.index,
+            length: self.length,
+            fragment,
+            durable: self.durable,
+        })
+    }
+}
+
+/// A device, and the fragments that it keeps, the oldest first.
 #[derive(Debug, Drop)]
 pub struct Node {
+    pub device: u16,
     pub entries: Vec<Stored>,
 }
 
 impl Node {
-    /// A node that keeps nothing. It takes no memory.
-    pub fn new(alloc: Global) -> Node
-        ensures { result.entries.items ≡ [] }
+    /// A node of a device, which keeps nothing. It takes no memory.
+    pub fn new(alloc: Global, device: u16) -> Node
+        ensures device { result.device ≡ device }
+        ensures empty { result.entries.items ≡ [] }
     {
         Node {
+            device,
             entries: Vec::new(alloc),
         }
     }
 
     /// The newest durable entry of a name.
     pub fn newest(&self, name: &Name) -> Option<&Stored>
-        ensures { option_copied result ≡ find (λ entry. entry.durable && name_eq entry.name name.now) (reverse self.now.entries.items) }
+        ensures { option_copied result ≡ newest name.now self.now.entries.items }
     {
         self.entries
             .iter()

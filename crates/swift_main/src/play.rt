@@ -3,6 +3,7 @@
 ghost use Rattle.std.specs.Prelude.{◌≡◌, ◌≢◌, ℕ, ◌+◌, ◌^◌, ◌<◌, ◌≤◌, ◌++◌, [], ◌∷◌, List, Ok, Err, OnOk, OnErr, IsErrOf, is_ok, true, length};
 ghost use Rattle.std.specs.List.{All};
 ghost use Rattle.sw_types.specs.Name.{Parts};
+ghost use Rattle.sw_ring.specs.Fields.{Fields};
 ghost use Rattle.swift_main.specs.Found.{AreHeld, IsFound};
 ghost use Rattle.swift_main.specs.Nodes.{IsOneSegment, StandsFor};
 ghost use Rattle.swift_main.specs.Play.{Ran, RanPart, events_in, fault_of};
@@ -38,21 +39,21 @@ pub fn play(alloc: Global, input: &[u8], world: &mut World, text: &mut Bytes) ->
     ensures ends { result ≢ PlayEnd.NoMemory → fault_of result ≡ first_fault 1 (lines_of input.now) }
 
     // From a world that stands for some events, those of the script are done, and each end is told by what came before.
-    ensures ran { result ≢ PlayEnd.NoMemory → (past : List Event) → StandsFor world.old past →
-        Ran past (events_of (lines_of input.now)) world.new text.old text.new }
-    ensures ran_part { result ≡ PlayEnd.NoMemory → (past : List Event) → StandsFor world.old past →
-        RanPart past (events_of (lines_of input.now)) world.new text.old text.new }
+    ensures ran { result ≢ PlayEnd.NoMemory → (cluster : Fields) (past : List Event) → StandsFor cluster world.old past →
+        Ran cluster past (events_of (lines_of input.now)) world.new text.old text.new }
+    ensures ran_part { result ≡ PlayEnd.NoMemory → (cluster : Fields) (past : List Event) → StandsFor cluster world.old past →
+        RanPart cluster past (events_of (lines_of input.now)) world.new text.old text.new }
 
     // The nodes hold, durable, the fragments of every put so far.
-    ensures held { result ≢ PlayEnd.NoMemory → (past : List Event) → StandsFor world.old past →
-        All (AreHeld world.new.nodes) (puts_of (past ++ events_of (lines_of input.now))) }
+    ensures held { result ≢ PlayEnd.NoMemory → (cluster : Fields) (past : List Event) → StandsFor cluster world.old past →
+        All (AreHeld cluster world.new.nodes) (puts_of (past ++ events_of (lines_of input.now))) }
 
     // What a get found is of the last put of its name, and the nodes hold the fragments of its stamp.
-    ensures found { result ≢ PlayEnd.NoMemory → (past : List Event) → StandsFor world.old past →
+    ensures found { result ≢ PlayEnd.NoMemory → (cluster : Fields) (past : List Event) → StandsFor cluster world.old past →
         (before after : List Event) (name : Parts) (stamp : ℕ) (body : List ℕ) →
         events_of (lines_of input.now) ≡ before ++ event.Get name ∷ after →
-        end_of (past ++ before) (event.Get name) ≡ End.Found stamp body →
-        IsFound world.new.nodes (past ++ before) name stamp body }
+        end_of cluster.policy (past ++ before) (event.Get name) ≡ End.Found stamp body cluster.policy.k →
+        IsFound cluster world.new.nodes (past ++ before) name stamp body }
 {
     run_lines(alloc, input, world, text)
 }
@@ -62,10 +63,10 @@ fn run_lines(alloc: Global, input: &[u8], world: &mut World, text: &mut Bytes) -
     requires few { world.old.operations < 2 ^ 40 }
     requires short { length input.now ≤ 67108864 }
     ensures ends { result ≢ PlayEnd.NoMemory → fault_of result ≡ first_fault 1 (lines_of input.now) }
-    ensures ran { result ≢ PlayEnd.NoMemory → (past : List Event) → StandsFor world.old past →
-        Ran past (events_of (lines_of input.now)) world.new text.old text.new }
-    ensures ran_part { result ≡ PlayEnd.NoMemory → (past : List Event) → StandsFor world.old past →
-        RanPart past (events_of (lines_of input.now)) world.new text.old text.new }
+    ensures ran { result ≢ PlayEnd.NoMemory → (cluster : Fields) (past : List Event) → StandsFor cluster world.old past →
+        Ran cluster past (events_of (lines_of input.now)) world.new text.old text.new }
+    ensures ran_part { result ≡ PlayEnd.NoMemory → (cluster : Fields) (past : List Event) → StandsFor cluster world.old past →
+        RanPart cluster past (events_of (lines_of input.now)) world.new text.old text.new }
 {
     let mut left = Some(input);
     let mut number = 0;
@@ -95,12 +96,12 @@ fn run_line(
 ) -> Result<(), LineFault>
     requires few { world.old.operations < 2 ^ 41 }
     ensures read { OnOk result (is_ok (event_of line.now) ≡ true) }
-    ensures ok { (past : List Event) → StandsFor world.old past →
-        OnOk result (Ran past (events_in (event_of line.now)) world.new text.old text.new) }
+    ensures ok { (cluster : Fields) (past : List Event) → StandsFor cluster world.old past →
+        OnOk result (Ran cluster past (events_in (event_of line.now)) world.new text.old text.new) }
     ensures form { IsErrOf result LineFault.Form → event_of line.now ≡ Err LineFault.Form }
     ensures same { IsErrOf result LineFault.Form → (world.new ≡ world.old) × (text.new ≡ text.old) }
-    ensures part { IsErrOf result LineFault.NoMemory → (past : List Event) → StandsFor world.old past →
-        RanPart past (events_in (event_of line.now)) world.new text.old text.new }
+    ensures part { IsErrOf result LineFault.NoMemory → (cluster : Fields) (past : List Event) → StandsFor cluster world.old past →
+        RanPart cluster past (events_in (event_of line.now)) world.new text.old text.new }
     ensures counted { world.new.operations ≤ world.old.operations + 1 }
 {
     match Event::read(alloc, line) {
@@ -122,10 +123,10 @@ fn run_event(
 ) -> Result<(), NoMemory>
     requires few { world.old.operations < 2 ^ 41 }
     requires one_segment { IsOneSegment event.now }
-    ensures ok { (past : List Event) → StandsFor world.old past →
-        OnOk result (Ran past (event.now ∷ []) world.new text.old text.new) }
-    ensures part { (past : List Event) → StandsFor world.old past →
-        OnErr result (RanPart past (event.now ∷ []) world.new text.old text.new) }
+    ensures ok { (cluster : Fields) (past : List Event) → StandsFor cluster world.old past →
+        OnOk result (Ran cluster past (event.now ∷ []) world.new text.old text.new) }
+    ensures part { (cluster : Fields) (past : List Event) → StandsFor cluster world.old past →
+        OnErr result (RanPart cluster past (event.now ∷ []) world.new text.old text.new) }
     ensures counted { world.new.operations ≤ world.old.operations + 1 }
 {
     let end = world.run(alloc, event)?;

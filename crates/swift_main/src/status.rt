@@ -5,6 +5,7 @@ ghost use Rattle.swift_main.specs.Outcome.{fault_number, last_line, status_code}
 
 use crate::event::LineFault;
 use std::alloc::Global;
+use sw_ring::RingFault;
 use sw_types::{Bytes, NoMemory};
 
 /// How the program ends, with its exit status and its last line.
@@ -14,8 +15,8 @@ pub enum Status {
     Done,
     /// 1, and the usage: the words are not a command.
     Usage,
-    /// 2, and `ring: 0`: the input is neither empty nor does it begin with a line feed.
-    Ring,
+    /// 2, and `ring: R`: the ring breaks the rule of this number, and none that is tried before it.
+    Ring(RingFault),
     /// 3, and `line L: F`: this line of the script has this fault.
     Line { line: u64, fault: LineFault },
     /// 4: memory was refused.
@@ -36,7 +37,7 @@ impl Status {
         match self {
             Status::Done => 0,
             Status::Usage => 1,
-            Status::Ring => 2,
+            Status::Ring(_) => 2,
             Status::Line { .. } => 3,
             Status::NoMemory => 4,
             Status::ReadFault => 5,
@@ -54,12 +55,22 @@ impl Status {
             Status::Usage => {
                 text.extend_from_slice(b"usage: play | serve PORT WORKERS | load N\n")
             }
-            Status::Ring => text.extend_from_slice(b"ring: 0\n"),
+            Status::Ring(fault) => print_ring_fault(alloc, fault, text),
             Status::Line { line, fault } => print_fault(alloc, line, fault, text),
             Status::TooLong => text.extend_from_slice(b"input too long\n"),
             Status::Done | Status::NoMemory | Status::ReadFault | Status::WriteFault => Ok(()),
         }
     }
+}
+
+// Adds the line of a faulty ring to the text.
+fn print_ring_fault(alloc: Global, fault: RingFault, text: &mut Bytes) -> Result<(), NoMemory>
+    ensures ok { OnOk result (text.new ≡ text.old ++ last_line (Status.Ring fault)) }
+    ensures err { OnErr result (text.new ≡ text.old) }
+{
+    let number = fault.number();
+    let last = format!(in alloc; "ring: {number}\n")?;
+    text.extend_from_slice(last.as_bytes())
 }
 
 // Adds the line of a faulty line to the text.

@@ -8,6 +8,7 @@ use std::alloc::{AllocError, Global};
 use std::process::Abort;
 use std::test::Fail;
 use sw_io::{MemSink, MemSource};
+use sw_ring::{Cluster, built_in};
 use sw_types::Bytes;
 
 const USAGE: &str = "usage: play | serve PORT WORKERS | load N\n";
@@ -92,10 +93,74 @@ fn does_each_line(rt: HostRuntime) -> Result<(), Fail> {
     Ok(())
 }
 
+// A ring stands before the first empty line, in one line or in more.
+#[test]
+fn runs_over_any_ring(rt: HostRuntime) -> Result<(), Fail> {
+    let cases = [
+        (
+            r#"{"part_power":0,"k":1,"m":1,"devices":[{"id":5},{"id":9}],"rows":[[9],[5]]}
+
+put a/c/o 6162
+get a/c/o"#,
+            "e 1 created 1000000000.00000 2\ne 2 found 1000000000.00000 6162 0\n",
+        ),
+        (
+            r#"{"part_power": 1, "k": 3, "m": 2, "hash_prefix": "p",
+ "devices": [{"id": 7}, {"id": 3}, {"id": 1}, {"id": 2}, {"id": 65535}, {"id": 0}],
+ "rows": [[7, 1], [3, 2], [1, 3], [2, 7], [65535, 0]]}
+
+put a/c/o 0001020304
+put a/c/p ff
+get a/c/o
+get a/c/p
+get a/c/q"#,
+            "e 1 created 1000000000.00000 5\ne 2 created 1000000000.00001 5\n\
+             e 3 found 1000000000.00000 0001020304 0,1,2\n\
+             e 4 found 1000000000.00001 ff 0,1,2\ne 5 absent\n",
+        ),
+        // Without an empty line there is no script.
+        (
+            r#"{"part_power":0,"k":1,"m":1,"devices":[{"id":5},{"id":9}],"rows":[[9],[5]]}
+"#,
+            "",
+        ),
+    ];
+    for (input, text) in cases {
+        expect_run(&rt, rt.alloc(), &["play"], input.as_bytes(), 0, text)?;
+    }
+    Ok(())
+}
+
+// The first rule that a ring breaks ends a run, whatever the script is.
+#[test]
+fn names_the_rule_that_a_ring_breaks(rt: HostRuntime) -> Result<(), Fail> {
+    let cases = [
+        ("{", "ring: 1\n"),
+        ("put a/c/o 61\n\nget a/c/o", "ring: 1\n"),
+        ("{}\n\nfly", "ring: 2\n"),
+        (
+            r#"{"part_power":0,"k":30,"m":3,"devices":[{"id":0}],"rows":[]}"#,
+            "ring: 3\n",
+        ),
+        (
+            r#"{"part_power":0,"k":2,"m":1,"devices":[{"id":0},{"id":1}],"rows":[[0],[1],[0]]}"#,
+            "ring: 7\n",
+        ),
+        (
+            r#"{"part_power":17,"k":2,"m":1,"devices":[{"id":0}],"rows":[]}"#,
+            "ring: 8\n",
+        ),
+    ];
+    for (input, text) in cases {
+        expect_run(&rt, rt.alloc(), &["play"], input.as_bytes(), 2, text)?;
+    }
+    Ok(())
+}
+
 #[test]
 fn ends_at_the_first_fault(rt: HostRuntime) -> Result<(), Fail> {
     let cases = [
-        ("x", 2, "ring: 0\n"),
+        ("x", 2, "ring: 1\n"),
         ("\nfly", 3, "line 1: 1\n"),
         (
             "\nput a/c/o 61\n\nput a/c/o 6g\nget a/c/o",
@@ -214,7 +279,8 @@ fn play_whole(rt: &impl Abort, alloc: Global, script: &[u8], world: &mut World, 
 #[test]
 fn plays_a_script_after_another(rt: HostRuntime) -> Result<(), Fail> {
     let alloc = rt.alloc();
-    let mut world = World::new(alloc)?;
+    let cluster = Cluster::read(alloc, built_in())?;
+    let mut world = World::new(alloc, cluster)?;
     let mut text = Bytes::new(alloc);
     play_whole(&rt, alloc, b"put a/c/o 61\n", &mut world, &mut text);
     play_whole(

@@ -1,11 +1,11 @@
 //! The top call.
 
-ghost use Rattle.std.specs.Prelude.{◌≡◌, ◌≢◌, ◌+◌, ℕ, [], map, take, drop, IfSome, IfOk, OnOk, IsOk, IsErrOf, string_bytes, true, false, Some};
+ghost use Rattle.std.specs.Prelude.{◌≡◌, ◌≢◌, ◌+◌, ℕ, map, take, drop, IfSome, IfOk, OnOk, IsOk, IsErrOf, string_bytes, true, false, Some};
+ghost use Rattle.std.specs.List.{concat};
 ghost use Rattle.std.specs.Io.KnownBytes.{Appends, Keeps};
 ghost use Rattle.sw_io.specs.Whole.{AppendsFront};
 ghost use Rattle.sw_words.specs.Counts.{Rose};
 ghost use Rattle.swift_main.specs.Outcome.{greatest_input, is_play, last_line, outcome_of, status_code, text_of};
-ghost use Rattle.swift_main.specs.Run.{run_text};
 ghost use Rattle.swift_main.specs.declared.status.Status.{Status};
 
 use crate::decide::{GREATEST_INPUT, decide, is_play};
@@ -38,7 +38,7 @@ pub fn swift_main<S: Source, O: Sink>(
     // Where memory was refused, the lines of the operations that had ended are written, each whole.
     ensures no_memory { result ≡ 4 → IfSome (S.remaining input.old) (λ whole. (ended : ℕ) ×
         Appends (O.written output.old) (O.written output.new)
-        (run_text [] (take ended (outcome_of (map (λ word. string_bytes word) words.now) whole).events))) }
+        (concat (take ended (outcome_of (map (λ word. string_bytes word) words.now) whole).ends))) }
 
     // A failed input or output is one whose count of faults rose.
     ensures read_fault { result ≡ 5 → Rose (S.faults input.old) (S.faults input.new)

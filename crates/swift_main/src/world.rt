@@ -1,11 +1,15 @@
-//! The world: three nodes, and the operations that were run over them.
+//! The world: a cluster, a node for each of its devices, and the operations that were run over them.
 
-ghost use Rattle.std.specs.Prelude.{◌≡◌, ℕ, ◌+◌, ◌≤◌, ◌<◌, ◌^◌, ◌++◌, [], ◌∷◌, List, IfOk, OnOk, OnErr, length, map, vec_len, vec_capacity};
+ghost use Rattle.std.specs.Prelude.{◌≡◌, ℕ, ◌+◌, ◌*◌, ◌≤◌, ◌<◌, ◌^◌, ◌==◌, ◌++◌, [], ◌∷◌, List, Some, IfOk, OnOk, OnErr, length, map, position, slice_get, slice_index, vec_len, vec_capacity};
 ghost use Rattle.sw_words.specs.Bytes.{IsBytes};
 ghost use Rattle.std.specs.List.{All};
-ghost use Rattle.sw_cauchy.specs.Stripe.{fragment_width, segment_fragment, segment_fragments};
-ghost use Rattle.swift_main.specs.Nodes.{StandsFor, IsOneSegment, entries_from, entries_of, kept};
-ghost use Rattle.swift_main.specs.Run.{all_commits, end_of, first_stamp};
+ghost use Rattle.std.specs.Option.{option_and_then, option_copied};
+ghost use Rattle.sw_cauchy.specs.Stripe.{segment_fragments};
+ghost use Rattle.sw_ring.specs.Cluster.{column_of};
+ghost use Rattle.sw_ring.specs.Fields.{Fields};
+ghost use Rattle.swift_main.specs.Nodes.{StandsFor, IsOneSegment, entries_at, kept_by, newest, partition, primaries, with_put};
+ghost use Rattle.swift_main.specs.Run.{Put, end_of, first_stamp, latest, puts_of};
+ghost use Rattle.swift_main.specs.Storing.{entries_from, stored};
 ghost use Rattle.swift_main.specs.declared.event.Event.{Event};
 ghost use Rattle.swift_main.specs.declared.event.Event.TheVariants as event;
 
@@ -15,17 +19,16 @@ use crate::node::{Node, Stored};
 use std::alloc::Global;
 use std::marker::Model;
 use sw_cauchy::{Code, Gather};
+use sw_ring::Cluster;
 use sw_types::{Bytes, Name, NoMemory, Stamp};
-
-/// How many nodes there are: one for each fragment.
-const NODES: u32 = 3;
 
 /// The stamp of the first put, in units of 10 microseconds: 1000000000.00000.
 const FIRST_STAMP: u64 = 100_000_000_000_000;
 
-/// Three nodes, and how many operations and puts were run over them.
+/// A cluster, one node for each of its devices, and how many operations and puts were run over them.
 #[derive(Debug, Drop)]
 pub struct World {
+    cluster: Cluster,
     nodes: Vec<Node>,
     operations: u64,
     puts: u64,
@@ -33,27 +36,31 @@ pub struct World {
 
 impl Model for World {
     ghost use Rattle.std.specs.Prelude.{map};
-    ghost use Rattle.swift_main.specs.Nodes.{State, IsPlayed};
+    ghost use Rattle.swift_main.specs.Nodes.{State, IsPlayed, kept_by};
 
     ghost Value = { State };
 
     ghost view = { λ world. record {
-      nodes = map (λ node. node.entries.items) world.nodes.items;
+      cluster = world.cluster;
+      nodes = map kept_by world.nodes.items;
       operations = world.operations;
       puts = world.puts;
     } };
 
-    ghost invariant = { λ world. IsPlayed (map (λ node. node.entries.items) world.nodes.items) world.operations world.puts };
+    ghost invariant = { λ world. IsPlayed world.cluster (map kept_by world.nodes.items) world.operations world.puts };
 }
 
 impl World {
-    /// A world in which nothing was run.
-    pub fn new(alloc: Global) -> Result<World, NoMemory>
-        ensures { IfOk result (λ world. StandsFor world []) }
+    /// A world of a cluster, in which nothing was run.
+    pub fn new(alloc: Global, cluster: Cluster) -> Result<World, NoMemory>
+        ensures { IfOk result (λ world. StandsFor cluster world []) }
     {
-        let nodes = [Node::new(alloc), Node::new(alloc), Node::new(alloc)];
-        let nodes = Vec::from_array(alloc, nodes)?;
+        let mut nodes = Vec::new(alloc);
+        'each: for device in cluster.devices() {
+            nodes.push(Node::new(alloc, device.id))?;
+        }
         Ok(World {
+            cluster,
             nodes,
             operations: 0,
             puts: 0,
@@ -71,8 +78,8 @@ impl World {
     pub fn run(&mut self, alloc: Global, event: &Event) -> Result<End, NoMemory>
         requires few { self.old.operations < 2 ^ 41 }
         requires one_segment { IsOneSegment event.now }
-        ensures end { (past : List Event) → StandsFor self.old past → IfOk result (λ end. end ≡ end_of past event.now) }
-        ensures ok { (past : List Event) → StandsFor self.old past → OnOk result (StandsFor self.new (past ++ event.now ∷ [])) }
+        ensures end { (cluster : Fields) (past : List Event) → StandsFor cluster self.old past → IfOk result (λ end. end ≡ end_of cluster.policy past event.now) }
+        ensures ok { (cluster : Fields) (past : List Event) → StandsFor cluster self.old past → OnOk result (StandsFor cluster self.new (past ++ event.now ∷ [])) }
         ensures counted { OnOk result (self.new.operations ≡ self.old.operations + 1) }
         ensures err { OnErr result (self.new ≡ self.old) }
     {
@@ -88,28 +95,65 @@ impl World {
 
     // How a get of this name ends.
     fn get(&self, alloc: Global, name: &Name) -> Result<End, NoMemory>
-        ensures { (past : List Event) → StandsFor self.now past → IfOk result (λ end. end ≡ end_of past (event.Get name.now)) }
+        ensures { (cluster : Fields) (past : List Event) → StandsFor cluster self.now past → IfOk result (λ end. end ≡ end_of cluster.policy past (event.Get name.now)) }
     {
-        let Some(first) = self.nodes[0].newest(name) else {
+        let part = self.cluster.place(alloc, name)?.part();
+        let Some(first) = self.newest(part, 0, name) else {
             return Ok(End::Absent);
         };
-        let Some(second) = self.nodes[1].newest(name) else {
-            return Ok(End::Absent);
-        };
-        let body = decode(alloc, first, second)?;
+        let body = self.decode(alloc, part, name, first)?;
         Ok(End::Found {
             stamp: first.stamp,
             body,
+            k: self.cluster.policy().k(),
         })
     }
 
-    // Stores the fragments of an object, durable, and counts the put. After an `Err` the world is as before.
+    // The newest durable entry of a name at the primary of an index.
+    fn newest(&self, part: u32, index: u32, name: &Name) -> Option<&Stored>
+        requires part { part ≡ partition self.now.cluster name.now }
+        requires index { index < self.now.cluster.policy.k + self.now.cluster.policy.m }
+        ensures { option_copied result ≡ newest name.now (entries_at self.now.nodes (slice_index (primaries self.now.cluster name.now) index)) }
+    {
+        let device = self.cluster.primary(part, index);
+        let node = self.nodes.iter().find(|node| node.device == device)?;
+        node.newest(name)
+    }
+
+    // The body of the last put of a name, from the fragments at its first k primaries.
+    fn decode(&self, alloc: Global, part: u32, name: &Name, first: &Stored) -> Result<Bytes, NoMemory>
+        requires part { part ≡ partition self.now.cluster name.now }
+        requires first { newest name.now (entries_at self.now.nodes (slice_index (primaries self.now.cluster name.now) 0)) ≡ Some first.now }
+        ensures { (cluster : Fields) (past : List Event) → StandsFor cluster self.now past → (put : Put) → latest name.now (puts_of past) ≡ Some put →
+            IfOk result (λ body. body ≡ put.body) }
+    {
+        let code = self.code();
+        let mut gather = Gather::new(alloc, code, first.fragment.len())?;
+        'each: for index in 0..code.k {
+            let entry = self.newest(part, index, name).unwrap();
+            gather.add(index, entry.fragment.as_slice());
+        }
+        gather.finish(alloc, first.length)
+    }
+
+    // The code of its policy.
+    fn code(&self) -> Code
+        ensures data { result.k ≡ self.now.cluster.policy.k }
+        ensures parity { result.m ≡ self.now.cluster.policy.m }
+    {
+        let policy = self.cluster.policy();
+        Code::new(policy.k(), policy.m())
+    }
+
+    // Stores the fragments of an object, durable, at the primaries of its name, and counts the put. After an `Err` the world
+    // is as before.
     fn put(&mut self, alloc: Global, name: &Name, body: &[u8]) -> Result<End, NoMemory>
         requires few { self.old.operations < 2 ^ 41 }
         requires short { length body.now ≤ 4194304 }
-        ensures end { IfOk result (λ end. end ≡ End.Created (first_stamp + self.old.puts) all_commits) }
+        ensures end { IfOk result (λ end. end ≡ End.Created (first_stamp + self.old.puts) (self.old.cluster.policy.k + self.old.cluster.policy.m)) }
         ensures ok { OnOk result (self.new ≡ record {
-          nodes = kept self.old.nodes (entries_of (record { name = name.now; stamp = first_stamp + self.old.puts; body = body.now }));
+          cluster = self.old.cluster;
+          nodes = with_put self.old.cluster (record { name = name.now; stamp = first_stamp + self.old.puts; body = body.now }) self.old.nodes;
           operations = self.old.operations + 1;
           puts = self.old.puts + 1;
         }) }
@@ -117,15 +161,18 @@ impl World {
         ensures bytes { IsBytes body.now }
     {
         let stamp = stamp_of(self.puts);
-        let fragments = fragments_of(alloc, body)?;
+        let code = self.code();
+        let part = self.cluster.place(alloc, name)?.part();
+        let fragments = fragments_of(alloc, code, body)?;
         let entries = entries_of(alloc, name, stamp, body.len(), fragments)?;
+        let placed = placed(alloc, &self.cluster, part, &self.nodes, &entries)?;
         make_room(&mut self.nodes)?;
-        keep(&mut self.nodes, entries);
+        keep(&mut self.nodes, placed);
         self.operations += 1;
         self.puts += 1;
         Ok(End::Created {
             stamp,
-            commits: NODES,
+            commits: code.k + code.m,
         })
     }
 }
@@ -138,19 +185,22 @@ fn stamp_of(puts: u64) -> Stamp
     Stamp::make(FIRST_STAMP + puts).unwrap()
 }
 
-// The fragments of a body, one for each node. An empty body has empty ones.
-fn fragments_of(alloc: Global, body: &[u8]) -> Result<Vec<Bytes>, NoMemory>
+// The fragments of a body, by index. An empty body has empty ones.
+fn fragments_of(alloc: Global, code: Code, body: &[u8]) -> Result<Vec<Bytes>, NoMemory>
     requires { length body.now ≤ 4194304 }
-    ensures { IfOk result (λ fragments. fragments.items ≡ segment_fragments 2 3 body.now) }
+    ensures { IfOk result (λ fragments. fragments.items ≡ segment_fragments code.k (code.k + code.m) body.now) }
 {
-    if body.is_empty() {
-        let none = [Bytes::new(alloc), Bytes::new(alloc), Bytes::new(alloc)];
-        return Ok(Vec::from_array(alloc, none)?);
+    if !body.is_empty() {
+        return code.encode_stripe(alloc, body);
     }
-    Code::new(2, 1).encode_stripe(alloc, body)
+    let mut fragments = Vec::new(alloc);
+    'each: for _ in 0..code.k + code.m {
+        fragments.push(Bytes::new(alloc))?;
+    }
+    Ok(fragments)
 }
 
-// Entries of one object, one for each fragment, durable.
+// Entries of one object, by index, durable.
 fn entries_of(
     alloc: Global,
     name: &Name,
@@ -178,9 +228,33 @@ fn entries_of(
     Ok(entries)
 }
 
+// For each node the entry that goes to it, which is that of the index whose primary its device is.
+fn placed(
+    alloc: Global,
+    cluster: &Cluster,
+    part: u32,
+    nodes: &[Node],
+    entries: &[Stored],
+) -> Result<Vec<Option<Stored>>, NoMemory>
+    requires part { part < 2 ^ cluster.now.part_power }
+    requires entries { length entries.now ≡ length (column_of cluster.now part) }
+    ensures { IfOk result (λ placed. placed.items ≡
+        map (λ node. option_and_then (slice_get entries.now) (position (λ id. id == node.device) (column_of cluster.now part))) nodes.now) }
+{
+    let mut placed = Vec::new(alloc);
+    'each: for node in nodes {
+        let entry = match cluster.index_of(part, node.device) {
+            Some(index) => Some(entries[index as usize].copied()?),
+            None => None,
+        };
+        placed.push(entry)?;
+    }
+    Ok(placed)
+}
+
 // Makes room for one entry more in each node.
 fn make_room(nodes: &mut [Node]) -> Result<(), NoMemory>
-    ensures same { map (λ node. node.entries.items) nodes.new ≡ map (λ node. node.entries.items) nodes.old }
+    ensures same { map kept_by nodes.new ≡ map kept_by nodes.old }
     ensures room { OnOk result (All (λ node. vec_len node.entries < vec_capacity node.entries) nodes.new) }
 {
     'each: for node in nodes.iter_mut() {
@@ -189,30 +263,16 @@ fn make_room(nodes: &mut [Node]) -> Result<(), NoMemory>
     Ok(())
 }
 
-// Adds to each node its entry. It takes no memory.
-fn keep(nodes: &mut [Node], entries: Vec<Stored>)
-    requires each { length entries.items ≡ length nodes.old }
+// Adds to each node its entry, if there is one. It takes no memory.
+fn keep(nodes: &mut [Node], placed: Vec<Option<Stored>>)
+    requires each { length placed.items ≡ length nodes.old }
     requires room { All (λ node. vec_len node.entries < vec_capacity node.entries) nodes.old }
-    ensures { map (λ node. node.entries.items) nodes.new ≡ kept (map (λ node. node.entries.items) nodes.old) entries.items }
+    ensures { map kept_by nodes.new ≡ stored (map kept_by nodes.old) placed.items }
 {
-    let mut rest = entries.into_iter();
+    let mut rest = placed.into_iter();
     'each: for node in nodes.iter_mut() {
-        let entry = rest.next().unwrap();
-        node.entries.push(entry).unwrap();
+        if let Some(entry) = rest.next().unwrap() {
+            node.entries.push(entry).unwrap();
+        }
     }
-}
-
-// The body of an object, from its fragments of index 0 and 1.
-fn decode(alloc: Global, first: &Stored, second: &Stored) -> Result<Bytes, NoMemory>
-    requires size { second.now.length ≡ first.now.length }
-    requires first { length first.now.fragment ≡ fragment_width 2 first.now.length }
-    requires second { length second.now.fragment ≡ fragment_width 2 first.now.length }
-    ensures { (body : List ℕ) → IsBytes body → length body ≡ first.now.length →
-        first.now.fragment ≡ segment_fragment 2 body 0 → second.now.fragment ≡ segment_fragment 2 body 1 →
-        IfOk result (λ decoded. decoded ≡ body) }
-{
-    let mut gather = Gather::new(alloc, Code::new(2, 1), first.fragment.len())?;
-    gather.add(0, first.fragment.as_slice());
-    gather.add(1, second.fragment.as_slice());
-    gather.finish(alloc, first.length)
 }

@@ -4,9 +4,11 @@ use Rattle.std.proofs.lemmas.List.{with_items_is}
 use Rattle.std.proofs.lemmas.List.Sorted.{IsPermutation-map}
 use Rattle.std.proofs.lemmas.Map.Keys.{IsDistinct-IsPermutation, IsStrictlyIncreasing-from_distinct}
 use Rattle.std.specs.Vec.{with_items}
+use Rattle.sw_ring.specs.Cluster.{IsCluster}
 use Rattle.sw_ring.specs.Fields.{DeviceNumbers}
+use Rattle.sw_ring.specs.Inside.{cluster_seen}
 use Rattle.sw_ring.specs.Reading.{members_seen}
-use Rattle.sw_ring.proofs.Soundness.{distinct, even_rows, keeps}
+use Rattle.sw_ring.proofs.Soundness.{distinct, keeps, rules_kept}
 use Rattle.sw_ring.proofs.cluster.Cluster.from_members.Goals as goal
 
 flips : (x y : ℕ) → eqb x y ≡ eqb y x
@@ -16,16 +18,6 @@ pub overflow_cast-result : goal.overflow_cast-result
 overflow_cast-result c =
     let kept = keeps (members_seen c.args.members) c.requires.kept in
     omega (arith, kept.part_power)
-
-pub invariant_of-result : goal.invariant_of-result
-invariant_of-result c =
-    let kept = keeps (members_seen c.args.members) c.requires.kept in
-    record {
-      part_power = kept.part_power;
-      policy = rw c.requires.policy kept.policy;
-      rows = rw c.requires.policy kept.rows;
-      places = even_rows 0 _ _ kept.places;
-    }
 
 pub returns : goal.returns
 returns c =
@@ -42,3 +34,6 @@ returns c =
       devices = rw items moved;
       ascending = rw items (IsStrictlyIncreasing-from_distinct _ c.sort_by_id.ensures.sorted differ);
     }
+
+pub invariant_of-result : goal.invariant_of-result
+invariant_of-result c = rules_kept (members_seen c.args.members) _ c.requires.kept (returns c)

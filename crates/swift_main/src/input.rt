@@ -1,0 +1,36 @@
+//! The parts of the whole input.
+
+ghost use Rattle.std.specs.Prelude.{◌≡◌, ◌⊎◌, ◌+◌, ◌≤◌, true, Ok, Err, IfErr, IfOk, length};
+ghost use Rattle.sw_ring.specs.Cluster.{IsCluster, ring_of};
+ghost use Rattle.sw_ring.specs.Fields.{Fields};
+ghost use Rattle.swift_main.specs.Input.{after_empty, before_empty, ring_text};
+
+use memchr::memmem;
+use std::alloc::Global;
+use sw_ring::{Cluster, RingFault, built_in};
+
+/// What stands before the first empty line, and what after it: all, and nothing, where there is none.
+pub fn at_empty_line(input: &[u8]) -> (&[u8], &[u8])
+    ensures before { result.0.now ≡ before_empty true input.now }
+    ensures after { result.1.now ≡ after_empty true input.now }
+{
+    if let Some(rest) = input.strip_prefix(b"\n") {
+        return (&[], rest);
+    }
+    match memmem::find(input, b"\n\n") {
+        Some(place) => (&input[..place + 1], &input[place + 2..]),
+        None => (input, &[]),
+    }
+}
+
+/// The cluster of a ring's text, or of the built-in one where the text is empty; or the first rule that it breaks.
+pub fn read_ring(alloc: Global, text: &[u8]) -> Result<Cluster, RingFault>
+    ensures read { IfOk result (λ cluster. (fields : Fields) × (ring_of (ring_text text.now) ≡ Ok fields) × IsCluster fields cluster) }
+    ensures fault { IfErr result (λ fault. (fault ≡ RingFault.NoMemory) ⊎ (ring_of (ring_text text.now) ≡ Err fault)) }
+{
+    if text.is_empty() {
+        Cluster::read(alloc, built_in())
+    } else {
+        Cluster::read(alloc, text)
+    }
+}
