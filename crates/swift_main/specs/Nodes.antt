@@ -85,9 +85,12 @@ pub record StandsFor (cluster : Fields) (world : State) (past : List Event) : Ty
   pub puts : world.puts ≡ length (puts_of past)
   pub bytes : All (λ put. IsBytes put.body) (puts_of past)
 
--- each node with what its device keeps of one put more
+-- a node with what its device keeps of one put more
+abbrev pub with_more : Fields → Put → Kept → Kept
+with_more cluster put node = record node { entries = node.entries ++ kept_of cluster node.device put }
+
 abbrev pub with_put : Fields → Put → List Kept → List Kept
-with_put cluster put nodes = map (λ node. record node { entries = node.entries ++ kept_of cluster node.device put }) nodes
+with_put cluster put nodes = map (with_more cluster put) nodes
 
 -- the body of a put is a segment or empty
 abbrev pub IsOneSegment : Event → Type 0
