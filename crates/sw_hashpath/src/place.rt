@@ -1,6 +1,6 @@
 //! Places of names, and their folders.
 
-ghost use Rattle.std.specs.Prelude.{◌≡◌, ◌≢◌, ◌≤◌, ◌∷◌, ◌++◌, ◌↔◌, ℕ, List, IfNone, IfOk, IfSome, IsTrue, MatchOption, length, string_bytes};
+ghost use Rattle.std.specs.Prelude.{◌≡◌, ◌≢◌, ◌≤◌, ◌<◌, ◌^◌, ◌∷◌, ◌++◌, ◌↔◌, ℕ, List, IfNone, IfOk, IfSome, IsTrue, MatchOption, length, string_bytes};
 ghost use Rattle.std.specs.Fmt.{decimal};
 ghost use Rattle.hex.specs.Hex.{encode_lower};
 ghost use Rattle.sw_words.specs.Bytes.{IsBytes};
@@ -78,7 +78,8 @@ impl Place {
 /// The place of a hash among 2^power partitions. It takes no memory.
 pub fn place_of(hash: [u8; 16], power: u32) -> Place
     requires { power ≤ 16 }
-    ensures { result ≡ spot_of hash power }
+    ensures place { result ≡ spot_of hash power }
+    ensures below { result.part < 2 ^ power }
 {
     let front = u32::from_be_bytes([hash[0], hash[1], hash[2], hash[3]]);
     let part = (u64::from(front) >> (32 - power)) as u32;
@@ -94,7 +95,8 @@ pub fn place_name(
     power: u32,
 ) -> Result<Place, NoMemory>
     requires { power ≤ 16 }
-    ensures { IfOk result (λ place. place ≡ spot_of (hash_of name.now prefix.now suffix.now) power) }
+    ensures place { IfOk result (λ place. place ≡ spot_of (hash_of name.now prefix.now suffix.now) power) }
+    ensures below { IfOk result (λ place. place.part < 2 ^ power) }
 {
     let path = name.path(alloc)?;
     let mut hasher = Md5::new();

@@ -135,7 +135,8 @@ impl Cluster {
 
     /// The place of a name.
     pub fn place(&self, alloc: Global, name: &Name) -> Result<Place, NoMemory>
-        ensures { IfOk result (λ place. place ≡ spot_of (hash_of name.now self.now.prefix self.now.suffix) self.now.part_power) }
+        ensures place { IfOk result (λ place. place ≡ spot_of (hash_of name.now self.now.prefix self.now.suffix) self.now.part_power) }
+        ensures below { IfOk result (λ place. place.part < 2 ^ self.now.part_power) }
     {
         let prefix = self.prefix.as_bytes();
         let suffix = self.suffix.as_bytes();

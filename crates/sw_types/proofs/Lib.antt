@@ -1,3 +1,4 @@
 mod Digits
 pub mod HexTexts
 pub mod Names
+pub mod Policies

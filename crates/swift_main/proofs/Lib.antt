@@ -1,9 +1,11 @@
 mod Cuts
 mod Founds
+mod Holds
 mod Nodes
-mod NodesDecode
+mod Decodes
 mod Outcomes
 mod Outsides
 mod Puts
 mod Runs
+mod Searches
 mod Segments

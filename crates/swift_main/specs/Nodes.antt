@@ -47,9 +47,12 @@ stored_at k put (Some index) = stored_of k put index ∷ []
 abbrev pub kept_of : Fields → ℕ → Put → List Stored
 kept_of cluster device put = stored_at cluster.policy.k put (position (λ id. id == device) (primaries cluster put.name))
 
--- the nodes after these puts, one for each device, each with its entries in their order
+-- the node of a device after these puts, with its entries in their order
+abbrev pub node_after : Fields → List Put → ℕ → Kept
+node_after cluster puts device = record { device = device; entries = flat_map (kept_of cluster device) puts }
+
 abbrev pub nodes_after : Fields → List Put → List Kept
-nodes_after cluster puts = map (λ id. record { device = id; entries = flat_map (kept_of cluster id) puts }) (ids_of cluster)
+nodes_after cluster puts = map (node_after cluster puts) (ids_of cluster)
 
 abbrev pub entries_of : Option Kept → List Stored
 entries_of None = []

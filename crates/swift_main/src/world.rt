@@ -5,7 +5,7 @@ ghost use Rattle.sw_words.specs.Bytes.{IsBytes};
 ghost use Rattle.std.specs.List.{All};
 ghost use Rattle.std.specs.Option.{option_and_then, option_copied};
 ghost use Rattle.sw_cauchy.specs.Stripe.{segment_fragments};
-ghost use Rattle.sw_ring.specs.Cluster.{column_of};
+ghost use Rattle.sw_ring.specs.Cluster.{KeepsRules, column_of};
 ghost use Rattle.sw_ring.specs.Fields.{Fields};
 ghost use Rattle.swift_main.specs.Nodes.{StandsFor, IsOneSegment, entries_at, kept_by, newest, partition, primaries, with_put};
 ghost use Rattle.swift_main.specs.Run.{Put, end_of, first_stamp, latest, puts_of};
@@ -127,22 +127,13 @@ impl World {
         ensures { (cluster : Fields) (past : List Event) → StandsFor cluster self.now past → (put : Put) → latest name.now (puts_of past) ≡ Some put →
             IfOk result (λ body. body ≡ put.body) }
     {
-        let code = self.code();
+        let code = code_of(&self.cluster);
         let mut gather = Gather::new(alloc, code, first.fragment.len())?;
         'each: for index in 0..code.k {
             let entry = self.newest(part, index, name).unwrap();
             gather.add(index, entry.fragment.as_slice());
         }
         gather.finish(alloc, first.length)
-    }
-
-    // The code of its policy.
-    fn code(&self) -> Code
-        ensures data { result.k ≡ self.now.cluster.policy.k }
-        ensures parity { result.m ≡ self.now.cluster.policy.m }
-    {
-        let policy = self.cluster.policy();
-        Code::new(policy.k(), policy.m())
     }
 
     // Stores the fragments of an object, durable, at the primaries of its name, and counts the put. After an `Err` the world
@@ -161,7 +152,7 @@ impl World {
         ensures bytes { IsBytes body.now }
     {
         let stamp = stamp_of(self.puts);
-        let code = self.code();
+        let code = code_of(&self.cluster);
         let part = self.cluster.place(alloc, name)?.part();
         let fragments = fragments_of(alloc, code, body)?;
         let entries = entries_of(alloc, name, stamp, body.len(), fragments)?;
@@ -175,6 +166,16 @@ impl World {
             commits: code.k + code.m,
         })
     }
+}
+
+// The code of a cluster's policy.
+fn code_of(cluster: &Cluster) -> Code
+    requires { KeepsRules cluster.now }
+    ensures data { result.k ≡ cluster.now.policy.k }
+    ensures parity { result.m ≡ cluster.now.policy.m }
+{
+    let policy = cluster.policy();
+    Code::new(policy.k(), policy.m())
 }
 
 // The stamp that is drawn after so many puts.

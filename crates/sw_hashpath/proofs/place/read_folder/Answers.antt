@@ -15,4 +15,4 @@ returns-else-has_folder-clause-none c = λ spot is_spot printed.
     let end = folder_end spot in
     let found = c.in_ok-last_hash.ensures end.0 spot.hash is_spot.hash is_spot.bytes (c.as_bytes-text.ensures.value ∙ printed ∙ end.1) in
     let same = folder_of-spot_of c.args.power spot _ is_spot (same_Some _ _ found) in
-    absurd (cc (c.if-has_folder.ensures.1 (c.as_bytes-text.ensures.value ∙ printed ∙ same ∙ sym (ap folder_of c.place_of-place.ensures))))
+    absurd (cc (c.if-has_folder.ensures.1 (c.as_bytes-text.ensures.value ∙ printed ∙ same ∙ sym (ap folder_of c.place_of-place.ensures.place))))

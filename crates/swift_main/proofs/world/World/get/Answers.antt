@@ -1,0 +1,21 @@
+use Rattle.std.proofs.Common.{rules, ◌≡◌, ℕ, ◌+◌, ◌*◌, ◌≤◌, ◌<◌, ◌^◌, ◌==◌, ◌++◌, [], ◌∷◌, List, Some, IfOk, OnOk, OnErr, length, map, position, slice_get, slice_index, vec_len, vec_capacity, ◌-◌, ◌/◌, ◌%◌, Bool, true, false, nat_eq, nat_lt, slice_index_or, slice_set, bit_and, bit_or, Fits, w8, w32, w64, Bor, MutBor}
+use Rattle.sw_words.specs.Bytes.{IsBytes}
+use Rattle.std.specs.List.{All}
+use Rattle.std.specs.Option.{option_and_then, option_copied}
+use Rattle.sw_cauchy.specs.Stripe.{segment_fragments}
+use Rattle.sw_ring.specs.Cluster.{column_of}
+use Rattle.sw_ring.specs.Fields.{Fields}
+use Rattle.swift_main.specs.Nodes.{StandsFor, IsOneSegment, entries_at, kept_by, newest, partition, primaries, with_put}
+use Rattle.swift_main.specs.Run.{Put, end_of, first_stamp, latest, puts_of}
+use Rattle.swift_main.specs.Storing.{entries_from, stored}
+use Rattle.swift_main.specs.declared.event.Event.{Event}
+use Rattle.swift_main.specs.declared.event.Event.TheVariants as event
+use Rattle.swift_main.proofs.world.World.get.Goals as goal
+
+-- src/world.rt:102:13
+pub returns-in_default : goal.returns-in_default
+returns-in_default c = ?
+
+-- src/world.rt:97:5
+pub returns : goal.returns
+returns c = ?
