@@ -1,4 +1,5 @@
 mod Cuts
+mod EmptyLines
 mod Founds
 mod Holds
 mod Nodes
