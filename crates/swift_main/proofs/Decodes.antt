@@ -13,6 +13,7 @@ use Rattle.sw_types.proofs.Policies.{bounds}
 use Rattle.sw_types.specs.Name.{Parts}
 use Rattle.sw_cauchy.specs.Share.{AreFragments, Gathered, Share}
 use Rattle.sw_cauchy.specs.Stripe.{fragment, fragment_byte, fragment_width, padded, segment_fragment}
+use Rattle.sw_ring.specs.Cluster.{KeepsRules}
 use Rattle.sw_ring.specs.Fields.{Fields}
 use Rattle.swift_main.specs.declared.node.Stored.{Stored}
 use Rattle.swift_main.specs.Nodes.{IsPlayed, Kept, entries_at, newest, nodes_after, stored_of}
@@ -53,8 +54,16 @@ behind cluster nodes operations puts name first played is =
 range_push : (start count : ℕ) → range_with_len start (count + 1) ≡ range_with_len start count ++ (start + count) ∷ []
 range_push start zero = ap (λ n. n ∷ []) (omega arith)
 range_push start (suc count) =
-    ap (λ n. range_with_len start n) (omega arith)
+    let one : suc count + 1 ≡ suc (count + 1) = omega arith in
+    ap (λ n. range_with_len start n) one
     ∙ ap (λ rest. start ∷ rest) (range_push (start + 1) count ∙ ap (λ n. range_with_len (start + 1) count ++ n ∷ []) (omega arith))
+
+-- the share of each index below k is that fragment of the name's last put
+pub made_of : (cluster : Fields) (nodes : List Kept) (puts : List Put) (name : Parts) (put : Put) → KeepsRules cluster → nodes ≡ nodes_after cluster puts → latest name puts ≡ Some put
+    → (index : ℕ) → index < cluster.policy.k + cluster.policy.m → newest name (entries_at nodes (primary_at cluster name index)) ≡ Some (stored_of cluster.policy.k put index)
+made_of cluster nodes puts name put rules after last index below =
+    ap (λ all. newest name (entries_at all (primary_at cluster name index))) after ∙ newest_held cluster puts name index rules below
+    ∙ ap (option_map (λ put. stored_of cluster.policy.k put index)) last
 
 -- one share more
 pub shares_push : (share : ℕ → Share) (count : ℕ) → map share (range_with_len 0 (count + 1)) ≡ map share (range_with_len 0 count) ++ share count ∷ []
@@ -73,6 +82,18 @@ all_others share index named = All-from_recursion (λ other. other.index ≢ ind
 pub length-fragment : (k width : ℕ) (pieces : List ℕ) (i : ℕ) → length (fragment k width pieces i) ≡ width
 unfolding fragment
 length-fragment k width pieces i = length-map-range_with_len (fragment_byte k width pieces i) 0 width
+
+-- fragments of one put have one width
+pub same_width : (k : ℕ) (put : Put) (index : ℕ) (entry first : Stored) → entry ≡ stored_of k put index → first ≡ stored_of k put 0 → length entry.fragment ≡ length first.fragment
+same_width k put index entry first this that =
+    let width = fragment_width k (length put.body) in
+    ap (λ (one : Stored). length one.fragment) this ∙ length-fragment k width (padded k put.body) index
+    ∙ sym (ap (λ (one : Stored). length one.fragment) that ∙ length-fragment k width (padded k put.body) 0)
+
+pub first_width : (k : ℕ) (put : Put) (first : Stored) → first ≡ stored_of k put 0 → fragment_width k first.length ≡ length first.fragment
+first_width k put first is =
+    let width = fragment_width k (length put.body) in
+    ap (λ (one : Stored). fragment_width k one.length) is ∙ sym (ap (λ (one : Stored). length one.fragment) is ∙ length-fragment k width (padded k put.body) 0)
 
 -- each place of a list of zeros reads 0, also past its end
 zero-at : (count place : ℕ) → get_or {A = ℕ} (replicate count 0) place 0 ≡ 0

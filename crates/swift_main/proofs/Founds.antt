@@ -1,20 +1,24 @@
 -- A body that was found is that of the last put of its name, and the nodes hold its fragments.
 use Rattle.std.proofs.Common.{◌≡◌, ℕ, zero, suc, ◌+◌, Bool, true, false, cond, List, [], ◌∷◌, ◌++◌, map, reverse, get_or, take, drop, Option, Some, None, refl, sym, ◌∙◌, ap, subst, arith, append_assoc}
-use Rattle.std.specs.List.{All, AllByRecursion, Contains, find}
+use Rattle.std.specs.List.{All, AllByRecursion, Contains, find, flat_map}
 use Rattle.std.specs.Prelude.{◌≢◌}
 use Rattle.std.proofs.lemmas.Bool.{both_ways}
 use Rattle.std.proofs.Math.Seq.{drop-cons}
-use Rattle.std.proofs.lemmas.List.{reverse-append, take-append-drop}
+use Rattle.std.proofs.lemmas.Grind.{flat_map-append}
+use Rattle.std.proofs.lemmas.List.{take-append-drop}
 use Rattle.std.proofs.lemmas.List.Elements.{All-from_recursion}
 use Rattle.sw_types.proofs.Names.{name_eq-true, name_eq-same}
 use Rattle.sw_types.specs.Name.{Parts, name_eq}
+use Rattle.sw_ring.specs.Cluster.{KeepsRules}
+use Rattle.sw_ring.specs.Fields.{Fields}
 use Rattle.swift_main.specs.declared.end.End.TheVariants.{Found}
 use Rattle.swift_main.specs.declared.event.Event.{Event}
 use Rattle.swift_main.specs.declared.event.Event.TheVariants as event
-use Rattle.swift_main.specs.declared.node.Stored.{Stored}
 use Rattle.swift_main.specs.Found.{AreHeld, IsFound, IsLast}
-use Rattle.swift_main.specs.Nodes.{State, StandsFor, nodes_after, stored_of}
+use Rattle.swift_main.specs.Nodes.{Kept, kept_of, nodes_after, stored_of}
 use Rattle.swift_main.specs.Run.{Put, end_of, get_end, latest, puts_from, puts_of, first_stamp}
+use Rattle.swift_main.proofs.Holds.{kept_of-primary, primary_at, primary_entries}
+use Rattle.swift_main.proofs.Searches.{find_back-append, or_first}
 
 -- the last put that passes a test, and those round it
 record LastPassing (test : Put → Bool) (puts : List Put) (put : Put) : Type 0 where
@@ -24,18 +28,9 @@ record LastPassing (test : Put → Bool) (puts : List Put) (put : Put) : Type 0 
   passes : test put ≡ true
   others : AllByRecursion (λ other. test other ≡ false) later
 
-abbrev or_first : Option Put → Option Put → Option Put
-or_first (Some put) other = Some put
-or_first None other = other
-
-find-append : (test : Put → Bool) (first more : List Put) → find test (first ++ more) ≡ or_first (find test first) (find test more)
-find-append test [] more = refl
-find-append test (put ∷ puts) more =
-    elim (test put) as (λ passes. cond passes (Some put) (find test (puts ++ more)) ≡ or_first (cond passes (Some put) (find test puts)) (find test more)) [ true ↦ refl | false ↦ find-append test puts more ]
-
 -- a search from the back, at one put more in front
 from_back : (test : Put → Bool) (put : Put) (puts : List Put) → find test (reverse (put ∷ puts)) ≡ or_first (find test (reverse puts)) (cond (test put) (Some put) None)
-from_back test put puts = ap (λ all. find test all) (reverse-append (put ∷ []) puts) ∙ find-append test (reverse puts) (put ∷ [])
+from_back test put puts = find_back-append test (put ∷ []) puts
 
 neither : (found : Option Put) (passes : Bool) (put : Put) → or_first found (cond passes (Some put) None) ≡ None → (found ≡ None) × (passes ≡ false)
 neither (Some other) passes put h = absurd (cc)
@@ -87,17 +82,20 @@ found_last name puts put h =
       same,
     )
 
--- a list with an element in its middle, made into another
-in_middle : {X Y : Type 0} (f : X → Y) (earlier later : List X) (x : X) → Contains (map f (earlier ++ x ∷ later)) (f x)
-in_middle f [] later x = (0, omega arith, refl)
-in_middle f (first ∷ earlier) later x = let rest = in_middle f earlier later x in (suc rest.0, omega (arith, rest.1), rest.2)
+-- an element behind others and before others
+in_middle : {X : Type 0} (earlier later : List X) (x : X) → Contains (earlier ++ x ∷ later) x
+in_middle [] later x = (0, omega arith, refl)
+in_middle (first ∷ earlier) later x = let rest = in_middle earlier later x in (suc rest.0, omega (arith, rest.1), rest.2)
 
--- the nodes hold each put
-held_after : (puts earlier later : List Put) (put : Put) → puts ≡ earlier ++ put ∷ later → AreHeld (nodes_after puts) put
-held_after puts earlier later put place zero below = subst (λ all. Contains (map (stored_of 0) all) (stored_of 0 put)) (sym place) (in_middle (stored_of 0) earlier later put)
-held_after puts earlier later put place (suc zero) below = subst (λ all. Contains (map (stored_of 1) all) (stored_of 1 put)) (sym place) (in_middle (stored_of 1) earlier later put)
-held_after puts earlier later put place (suc (suc zero)) below = subst (λ all. Contains (map (stored_of 2) all) (stored_of 2 put)) (sym place) (in_middle (stored_of 2) earlier later put)
-held_after puts earlier later put place (suc (suc (suc index))) below = absurd (omega arith)
+-- the primaries hold each put
+held_after : (cluster : Fields) (puts earlier later : List Put) (put : Put) → KeepsRules cluster → puts ≡ earlier ++ put ∷ later → AreHeld cluster (nodes_after cluster puts) put
+held_after cluster puts earlier later put rules place index below =
+    let device = primary_at cluster put.name index in
+    let kept = kept_of cluster device in
+    let here = kept_of-primary cluster put index rules below in
+    let split : flat_map kept puts ≡ flat_map kept earlier ++ stored_of cluster.policy.k put index ∷ flat_map kept later =
+    ap (flat_map kept) place ∙ flat_map-append kept earlier (put ∷ later) ∙ ap (λ this. flat_map kept earlier ++ (this ++ flat_map kept later)) here in
+    subst (λ entries. Contains entries (stored_of cluster.policy.k put index)) (sym (primary_entries cluster puts put.name index rules below ∙ split)) (in_middle (flat_map kept earlier) (flat_map kept later) (stored_of cluster.policy.k put index))
 
 -- later events add to the puts
 puts_more : (stamp : ℕ) (first more : List Event) → (others : List Put) × (puts_from stamp (first ++ more) ≡ puts_from stamp first ++ others)
@@ -112,17 +110,18 @@ record FoundPut (found : Option Put) (stamp : ℕ) (body : List ℕ) : Type 0 wh
   same_stamp : put.stamp ≡ stamp
   same_body : put.body ≡ body
 
-found_put : (found : Option Put) (stamp : ℕ) (body : List ℕ) → get_end found ≡ Found stamp body → FoundPut found stamp body
-found_put None stamp body h = absurd (cc)
-found_put (Some put) stamp body h =
+found_put : (k : ℕ) (found : Option Put) (stamp : ℕ) (body : List ℕ) → get_end k found ≡ Found stamp body k → FoundPut found stamp body
+found_put k None stamp body h = absurd (cc)
+found_put k (Some put) stamp body h =
     let stamps : put.stamp ≡ stamp = cc in
     let bodies : put.body ≡ body = cc in
     record { put = put; is = refl; same_stamp = stamps; same_body = bodies }
 
 -- what a get found is of the last put of its name, which the nodes hold, also after more events
-pub found_is : (nodes : List (List Stored)) (past more : List Event) (name : Parts) (stamp : ℕ) (body : List ℕ) → nodes ≡ nodes_after (puts_of (past ++ more)) → end_of past (event.Get name) ≡ Found stamp body → IsFound nodes past name stamp body
-found_is nodes past more name stamp body is ends =
-    let found = found_put (latest name (puts_of past)) stamp body ends in
+pub found_is : (cluster : Fields) (nodes : List Kept) (past more : List Event) (name : Parts) (stamp : ℕ) (body : List ℕ) → KeepsRules cluster → nodes ≡ nodes_after cluster (puts_of (past ++ more))
+    → end_of cluster.policy past (event.Get name) ≡ Found stamp body cluster.policy.k → IsFound cluster nodes past name stamp body
+found_is cluster nodes past more name stamp body rules is ends =
+    let found = found_put cluster.policy.k (latest name (puts_of past)) stamp body ends in
     let last = found_last name (puts_of past) found.put found.is in
     let others = puts_more first_stamp past more in
     let place = others.1 ∙ ap (λ puts. puts ++ others.0) last.0.place ∙ append_assoc last.0.earlier (found.put ∷ last.0.later) others.0 in
@@ -132,12 +131,12 @@ found_is nodes past more name stamp body is ends =
       same_name = last.1;
       same_stamp = found.same_stamp;
       same_body = found.same_body;
-      held = subst (λ all. AreHeld all found.put) (sym is) (held_after (puts_of (past ++ more)) last.0.earlier (last.0.later ++ others.0) found.put place);
+      held = subst (λ all. AreHeld cluster all found.put) (sym is) (held_after cluster (puts_of (past ++ more)) last.0.earlier (last.0.later ++ others.0) found.put rules place);
     }
 
 -- the nodes hold each put of these events
-pub all_held : (world : State) (past : List Event) → StandsFor world past → All (AreHeld world.nodes) (puts_of past)
-all_held world past stands = λ k d below.
-    subst (λ nodes. AreHeld nodes (get_or (puts_of past) k d)) (sym stands.nodes)
-    (held_after (puts_of past) (take k (puts_of past)) (drop (suc k) (puts_of past)) (get_or (puts_of past) k d)
+pub all_held : (cluster : Fields) (nodes : List Kept) (past : List Event) → KeepsRules cluster → nodes ≡ nodes_after cluster (puts_of past) → All (AreHeld cluster nodes) (puts_of past)
+all_held cluster nodes past rules after = λ k d below.
+    subst (λ these. AreHeld cluster these (get_or (puts_of past) k d)) (sym after)
+    (held_after cluster (puts_of past) (take k (puts_of past)) (drop (suc k) (puts_of past)) (get_or (puts_of past) k d) rules
     (sym (take-append-drop k (puts_of past)) ∙ ap (λ rest. take k (puts_of past) ++ rest) (drop-cons (puts_of past) k d below)))

@@ -99,6 +99,21 @@ newest_held cluster puts name index rules below =
     ap (newest name) (primary_entries cluster puts name index rules below)
     ∙ newest_kept cluster (primary_at cluster name index) index name puts (primary_index cluster (partition cluster name) index rules (partition_below cluster name rules) below)
 
+-- a name of which the primary of index 0 holds nothing was not put
+pub none_put : (k : ℕ) (found : Option Put) → option_map (λ put. stored_of k put 0) found ≡ None → found ≡ None
+none_put k None is = refl
+none_put k (Some put) is = absurd (cc)
+
+-- and one of which it holds an entry was put
+pub record FoundBy (k : ℕ) (found : Option Put) (first : Stored) : Type 0 where
+  pub put : Put
+  pub is : found ≡ Some put
+  pub first_is : first ≡ stored_of k put 0
+
+pub some_put : (k : ℕ) (found : Option Put) (first : Stored) → option_map (λ put. stored_of k put 0) found ≡ Some first → FoundBy k found first
+some_put k None first is = absurd (cc)
+some_put k (Some put) first is = record { put = put; is = refl; first_is = cc }
+
 -- ---- bytes
 
 -- what holds of each element holds of each in reverse order
@@ -114,6 +129,9 @@ All-find P p (x ∷ xs) all =
     elim (p x) as (λ b. IfSome (cond b (Some x) (find p xs)) P) [ true ↦ All-head P x xs all | false ↦ All-find P p xs (All-tail P x xs all) ]
 
 -- the body of a name's last put is of bytes
-pub IsBytes-latest : (name : Parts) (puts : List Put) → All (λ put. IsBytes put.body) puts → IfSome (latest name puts) (λ put. IsBytes put.body)
+IsBytes-latest : (name : Parts) (puts : List Put) → All (λ put. IsBytes put.body) puts → IfSome (latest name puts) (λ put. IsBytes put.body)
 IsBytes-latest name puts all =
     All-find (λ put. IsBytes put.body) (λ put. name_eq put.name name) (reverse puts) (All-reverse (λ put. IsBytes put.body) puts all)
+
+pub IsBytes-some : (name : Parts) (puts : List Put) (put : Put) → latest name puts ≡ Some put → All (λ put. IsBytes put.body) puts → IsBytes put.body
+IsBytes-some name puts put last all = subst (λ found. IfSome found (λ put. IsBytes put.body)) last (IsBytes-latest name puts all)

@@ -5,5 +5,5 @@ use Rattle.swift_main.proofs.Founds.{found_is}
 use Rattle.swift_main.proofs.laws.found_law.Goals as goal
 
 pub returns : goal.returns
-returns c past name stamp body ends =
-    found_is (nodes_after (puts_of past)) past [] name stamp body (ap (λ events. nodes_after (puts_of events)) (sym (append-nil past))) ends
+returns c cluster rules past name stamp body ends =
+    found_is cluster (nodes_after cluster (puts_of past)) past [] name stamp body rules (ap (λ events. nodes_after cluster (puts_of events)) (sym (append-nil past))) ends
