@@ -1,25 +1,22 @@
 -- What is read of the input and written to the output.
-use Rattle.std.proofs.Common.{◌≡◌, ℕ, ◌<◌, ◌≤◌, List, [], ◌++◌, length, take, drop, Option, Some, None, Result, Ok, Err, IfSome, IfOk, OnOk, inl, inr, ◌⊎◌, ⊎_elim, refl, sym, ◌∙◌, ap, subst, arith, append_assoc, append-nil, Vec, Global}
-use Rattle.std.specs.Prelude.{◌≢◌}
+use Rattle.std.proofs.Common.{◌≡◌, ℕ, ◌<◌, ◌≤◌, List, [], ◌++◌, length, take, drop, Option, Some, None, Result, Ok, Err, IfSome, IfOk, OnOk, ⊎_elim, sym, ◌∙◌, ap, subst, arith, append_assoc, append-nil, Vec, Global}
+use Rattle.std.specs.List.{concat}
 use Rattle.std.specs.Io.KnownBytes.{Appends, Consumes, IsAtEnd}
 use Rattle.std.proofs.Math.ListN.{drop_of_length-le}
 use Rattle.std.proofs.lemmas.Bool.{cases_lt}
 use Rattle.std.proofs.lemmas.List.{drop_at, take-append-drop, take-append-le, take_all}
+use Rattle.std.proofs.lemmas.List.Folds.{concat-append}
 use Rattle.sw_io.specs.Whole.{AppendsFront}
 use Rattle.swift_main.specs.Answer.{Gives}
 use Rattle.swift_main.specs.Outcome.{IsPart, Outcome, last_line, text_of}
-use Rattle.swift_main.specs.Run.{run_text}
 use Rattle.swift_main.specs.declared.decide.Answer.{Answer}
-use Rattle.swift_main.specs.declared.event.Event.{Event}
-use Rattle.swift_main.specs.declared.status.Status.{Status}
-use Rattle.swift_main.specs.declared.status.Status.TheVariants.{Done, Usage, Ring, Line, NoMemory, ReadFault, WriteFault, TooLong}
-use Rattle.swift_main.proofs.Runs.{run_text-append}
+use Rattle.swift_main.proofs.Outcomes.{is_no_memory}
 
--- nothing was written, and that is the lines of no operation
-pub nothing_written : (told : Option (List ℕ)) (events : List ℕ → List Event) (written : Option (List ℕ)) → IfSome told (λ whole. (ended : ℕ) × Appends written written (run_text [] (take ended (events whole))))
-nothing_written None events written = tt
-nothing_written (Some whole) events None = (0, tt)
-nothing_written (Some whole) events (Some text) = (0, sym (append-nil text))
+-- nothing was written, and so no line of an end
+pub nothing_written : (told : Option (List ℕ)) (lines : List ℕ → List (List ℕ)) (written : Option (List ℕ)) → IfSome told (λ whole. (ended : ℕ) × Appends written written (concat (take ended (lines whole))))
+nothing_written None lines written = tt
+nothing_written (Some whole) lines None = (0, tt)
+nothing_written (Some whole) lines (Some text) = (0, sym (append-nil text))
 
 -- what is left of an input that was read up to a limit
 pub left_after : {E : Type 0} (result : Result (Vec ℕ Global) E) (old new : Option (List ℕ)) (limit : ℕ) → IfOk result (λ bytes. Consumes old new bytes.items) → IfOk result (λ bytes. length bytes.items ≤ limit) → IfOk result (λ bytes. length bytes.items < limit → IsAtEnd new)
@@ -46,24 +43,16 @@ longer_front old new text more front =
     (λ past. (length text, subst (λ t. Appends old new t) (take_all front.0 text past ∙ sym (take-append-le (length text) text more (omega arith) ∙ take_all (length text) text (omega arith))) front.1))
     (cases_lt front.0 (length text))
 
-is_no_memory : (status : Status) → (status ≡ NoMemory) ⊎ (status ≢ NoMemory)
-is_no_memory Done = inr (λ same. cc)
-is_no_memory Usage = inr (λ same. cc)
-is_no_memory Ring = inr (λ same. cc)
-is_no_memory (Line line fault) = inr (λ same. cc)
-is_no_memory NoMemory = inl refl
-is_no_memory ReadFault = inr (λ same. cc)
-is_no_memory WriteFault = inr (λ same. cc)
-is_no_memory TooLong = inr (λ same. cc)
-
+-- a front of some of the lines is one of the outcome's text
 part_front : (outcome : Outcome) (text : List ℕ) (old new : Option (List ℕ)) → IsPart outcome text → AppendsFront old new text → AppendsFront old new (text_of outcome)
 part_front outcome text old new part front =
-    let first = take part.events outcome.events in
-    let rest = drop part.events outcome.events in
-    let split : text_of outcome ≡ run_text [] first ++ (run_text first rest ++ last_line outcome.status) =
-    ap (λ events. run_text [] events ++ last_line outcome.status) (sym (take-append-drop part.events outcome.events))
-    ∙ ap (λ t. t ++ last_line outcome.status) (run_text-append [] first rest) ∙ append_assoc (run_text [] first) (run_text first rest) (last_line outcome.status) in
-    subst (λ t. AppendsFront old new t) (sym split) (longer_front old new (run_text [] first) (run_text first rest ++ last_line outcome.status) (subst (λ t. AppendsFront old new t) part.lines front))
+    let first = concat (take part.ended outcome.ends) in
+    let rest = concat (drop part.ended outcome.ends) in
+    let last = last_line outcome.status in
+    let split : text_of outcome ≡ first ++ (rest ++ last) =
+    ap (λ lines. concat lines ++ last) (sym (take-append-drop part.ended outcome.ends))
+    ∙ ap (λ t. t ++ last) (concat-append (take part.ended outcome.ends) (drop part.ended outcome.ends)) ∙ append_assoc first rest last in
+    subst (λ t. AppendsFront old new t) (sym split) (longer_front old new first (rest ++ last) (subst (λ t. AppendsFront old new t) part.lines front))
 
 -- a front of an answer is one of the outcome's text
 pub answer_front : (outcome : Outcome) (answer : Answer) (old new : Option (List ℕ)) → Gives outcome answer → AppendsFront old new answer.text → AppendsFront old new (text_of outcome)

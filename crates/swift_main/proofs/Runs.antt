@@ -1,39 +1,54 @@
 -- A run that goes on, and one that a fault or want of memory ends.
-use Rattle.std.proofs.Common.{◌≡◌, ℕ, suc, ◌+◌, ◌<◌, ◌≤◌, ◌==◌, true, List, [], ◌∷◌, ◌++◌, length, take, Option, Some, None, Result, Ok, Err, is_ok, OnErr, IfSome, refl, sym, ◌∙◌, ap, subst, arith, append_assoc, append-nil, length-append}
+use Rattle.std.proofs.Common.{◌≡◌, ℕ, zero, suc, ◌+◌, ◌<◌, ◌≤◌, ◌==◌, true, List, [], ◌∷◌, ◌++◌, length, take, Option, Some, None, Result, Ok, Err, is_ok, OnErr, IfSome, refl, sym, ◌∙◌, ap, subst, arith, append_assoc, append-nil, length-append}
 use denote.Bor.{Bor}
+use Rattle.std.specs.List.{concat}
 use Rattle.std.specs.Option.{option_copied}
 use Rattle.std.proofs.Math.Seq.{take-append-add}
 use Rattle.std.proofs.lemmas.List.{take-append-le}
+use Rattle.std.proofs.lemmas.List.Folds.{concat-append}
+use Rattle.sw_types.specs.Policy.{Numbers}
+use Rattle.sw_ring.specs.Fields.{Fields}
 use Rattle.swift_main.specs.Cut.{IsCut, parts_left}
 use Rattle.swift_main.specs.declared.event.Event.{Event}
 use Rattle.swift_main.specs.declared.event.LineFault.{LineFault}
 use Rattle.swift_main.specs.Nodes.{State, StandsFor}
 use Rattle.swift_main.specs.Play.{Ran, RanPart, events_in}
-use Rattle.swift_main.specs.Run.{run_text, end_line, end_of}
+use Rattle.swift_main.specs.Run.{run_lines, run_text, end_line, end_of}
 use Rattle.swift_main.specs.Script.{Fault, before_events, events_of, event_of, fault_before, lines_of}
 
--- the text of events one after another
-pub run_text-append : (past first more : List Event) → run_text past (first ++ more) ≡ run_text past first ++ run_text (past ++ first) more
-run_text-append past [] more = ap (λ p. run_text p more) (sym (append-nil past))
-run_text-append past (event ∷ events) more =
-    ap (λ t. end_line (length past + 1) (end_of past event) ++ t)
-    (run_text-append (past ++ event ∷ []) events more ∙ ap (λ p. run_text (past ++ event ∷ []) events ++ run_text p more) (append_assoc past (event ∷ []) events))
-    ∙ sym (append_assoc (end_line (length past + 1) (end_of past event)) (run_text (past ++ event ∷ []) events) (run_text (past ++ event ∷ events) more))
+-- the lines of events one after another
+pub run_lines-append : (policy : Numbers) (past first more : List Event) → run_lines policy past (first ++ more) ≡ run_lines policy past first ++ run_lines policy (past ++ first) more
+run_lines-append policy past [] more = ap (λ p. run_lines policy p more) (sym (append-nil past))
+run_lines-append policy past (event ∷ events) more =
+    ap (λ lines. end_line (length past + 1) (end_of policy past event) ∷ lines)
+    (run_lines-append policy (past ++ event ∷ []) events more ∙ ap (λ p. run_lines policy (past ++ event ∷ []) events ++ run_lines policy p more) (append_assoc past (event ∷ []) events))
+
+-- their text
+pub run_text-append : (policy : Numbers) (past first more : List Event) → run_text policy past (first ++ more) ≡ run_text policy past first ++ run_text policy (past ++ first) more
+run_text-append policy past first more =
+    ap concat (run_lines-append policy past first more) ∙ concat-append (run_lines policy past first) (run_lines policy (past ++ first) more)
+
+-- the first lines are those of the first events
+pub run_lines-take : (policy : Numbers) (past events : List Event) (n : ℕ) → take n (run_lines policy past events) ≡ run_lines policy past (take n events)
+run_lines-take policy past events zero = refl
+run_lines-take policy past [] (suc n) = refl
+run_lines-take policy past (event ∷ events) (suc n) =
+    ap (λ lines. end_line (length past + 1) (end_of policy past event) ∷ lines) (run_lines-take policy (past ++ event ∷ []) events n)
 
 -- no event was done yet
-pub ran_none : (past : List Event) (world : State) (text : List ℕ) → StandsFor world past → Ran past [] world text text
-ran_none past world text stands = record {
-  stands = subst (λ p. StandsFor world p) (sym (append-nil past)) stands;
+pub ran_none : (cluster : Fields) (past : List Event) (world : State) (text : List ℕ) → StandsFor cluster world past → Ran cluster past [] world text text
+ran_none cluster past world text stands = record {
+  stands = subst (λ p. StandsFor cluster world p) (sym (append-nil past)) stands;
   text = sym (append-nil text);
 }
 
 -- events after others
-pub ran_more : (past first more : List Event) (middle world : State) (old between new : List ℕ) → Ran past first middle old between → Ran (past ++ first) more world between new → Ran past (first ++ more) world old new
-ran_more past first more middle world old between new early late = record {
-  stands = subst (λ p. StandsFor world p) (append_assoc past first more) late.stands;
+pub ran_more : (cluster : Fields) (past first more : List Event) (middle world : State) (old between new : List ℕ) → Ran cluster past first middle old between → Ran cluster (past ++ first) more world between new → Ran cluster past (first ++ more) world old new
+ran_more cluster past first more middle world old between new early late = record {
+  stands = subst (λ p. StandsFor cluster world p) (append_assoc past first more) late.stands;
   text =
-      late.text ∙ ap (λ t. t ++ run_text (past ++ first) more) early.text ∙ append_assoc old (run_text past first) (run_text (past ++ first) more)
-      ∙ ap (λ t. old ++ t) (sym (run_text-append past first more));
+      late.text ∙ ap (λ t. t ++ run_text cluster.policy (past ++ first) more) early.text ∙ append_assoc old (run_text cluster.policy past first) (run_text cluster.policy (past ++ first) more)
+      ∙ ap (λ t. old ++ t) (sym (run_text-append cluster.policy past first more));
 }
 
 -- a line that isn't faulty comes before the others
@@ -54,8 +69,8 @@ events_in_first (Ok (Some event)) later = (later, refl)
 events_in_first (Err fault) later = ([], refl)
 
 -- an event was done, and its line is not written
-pub done_unwritten : (past : List Event) (event : Event) (world : State) (old new : List ℕ) → StandsFor world (past ++ event ∷ []) → new ≡ old → RanPart past (event ∷ []) world old new
-done_unwritten past event world old new stands same = record {
+pub done_unwritten : (cluster : Fields) (past : List Event) (event : Event) (world : State) (old new : List ℕ) → StandsFor cluster world (past ++ event ∷ []) → new ≡ old → RanPart cluster past (event ∷ []) world old new
+done_unwritten cluster past event world old new stands same = record {
   written = 0;
   done = 1;
   done_before_written = omega arith;
@@ -65,13 +80,13 @@ done_unwritten past event world old new stands same = record {
 }
 
 -- no event was done
-pub nothing_done : (past events : List Event) (world : State) (text : List ℕ) → StandsFor world past → RanPart past events world text text
-nothing_done past events world text stands = record {
+pub nothing_done : (cluster : Fields) (past events : List Event) (world : State) (text : List ℕ) → StandsFor cluster world past → RanPart cluster past events world text text
+nothing_done cluster past events world text stands = record {
   written = 0;
   done = 0;
   done_before_written = omega arith;
   within = omega arith;
-  stands = subst (λ p. StandsFor world p) (sym (append-nil past)) stands;
+  stands = subst (λ p. StandsFor cluster world p) (sym (append-nil past)) stands;
   text = sym (append-nil text);
 }
 
@@ -81,35 +96,35 @@ on_err (Ok value) leads left = tt
 on_err (Err error) leads left = leads left
 
 -- some events of a script were done, and these lines are left of it
-pub record Progress (past : List Event) (world : State) (old new : List ℕ) (left all : List (List ℕ)) : Type 0 where
+pub record Progress (cluster : Fields) (past : List Event) (world : State) (old new : List ℕ) (left all : List (List ℕ)) : Type 0 where
   pub before : List Event
-  pub ran : Ran past before world old new
+  pub ran : Ran cluster past before world old new
   pub rest : before ++ events_of left ≡ events_of all
 
 -- none of them was done
-pub no_progress : (past : List Event) (world : State) (text : List ℕ) (all : List (List ℕ)) → StandsFor world past → Progress past world text text all all
-no_progress past world text all stands = record { before = []; ran = ran_none past world text stands; rest = refl }
+pub no_progress : (cluster : Fields) (past : List Event) (world : State) (text : List ℕ) (all : List (List ℕ)) → StandsFor cluster world past → Progress cluster past world text text all all
+no_progress cluster past world text all stands = record { before = []; ran = ran_none cluster past world text stands; rest = refl }
 
 -- a line was done
-pub line_done : (past : List Event) (middle world : State) (old between new : List ℕ) (line : List ℕ) (left all : List (List ℕ)) → is_ok (event_of line) ≡ true
-    → (progress : Progress past middle old between (line ∷ left) all) → Ran (past ++ progress.before) (events_in (event_of line)) world between new → Progress past world old new left all
-line_done past middle world old between new line left all ok progress ran = record {
+pub line_done : (cluster : Fields) (past : List Event) (middle world : State) (old between new : List ℕ) (line : List ℕ) (left all : List (List ℕ)) → is_ok (event_of line) ≡ true
+    → (progress : Progress cluster past middle old between (line ∷ left) all) → Ran cluster (past ++ progress.before) (events_in (event_of line)) world between new → Progress cluster past world old new left all
+line_done cluster past middle world old between new line left all ok progress ran = record {
   before = progress.before ++ events_in (event_of line);
-  ran = ran_more past progress.before (events_in (event_of line)) middle world old between new progress.ran ran;
+  ran = ran_more cluster past progress.before (events_in (event_of line)) middle world old between new progress.ran ran;
   rest =
       append_assoc progress.before (events_in (event_of line)) (events_of left)
       ∙ ap (λ events. progress.before ++ events) (sym (before_events_is (event_of line) (events_of left) ok)) ∙ progress.rest;
 }
 
 -- no line is left to do, as at the end or at a faulty line
-pub all_done : (past : List Event) (world : State) (old new : List ℕ) (left all : List (List ℕ)) → events_of left ≡ [] → Progress past world old new left all → Ran past (events_of all) world old new
-all_done past world old new left all none progress =
-    subst (λ events. Ran past events world old new) (sym (append-nil progress.before) ∙ ap (λ events. progress.before ++ events) (sym none) ∙ progress.rest) progress.ran
+pub all_done : (cluster : Fields) (past : List Event) (world : State) (old new : List ℕ) (left all : List (List ℕ)) → events_of left ≡ [] → Progress cluster past world old new left all → Ran cluster past (events_of all) world old new
+all_done cluster past world old new left all none progress =
+    subst (λ events. Ran cluster past events world old new) (sym (append-nil progress.before) ∙ ap (λ events. progress.before ++ events) (sym none) ∙ progress.rest) progress.ran
 
 -- memory was refused in a line
-pub part_done : (past : List Event) (middle world : State) (old between new : List ℕ) (line : List ℕ) (left all : List (List ℕ)) → (progress : Progress past middle old between (line ∷ left) all)
-    → RanPart (past ++ progress.before) (events_in (event_of line)) world between new → RanPart past (events_of all) world old new
-part_done past middle world old between new line left all progress part =
+pub part_done : (cluster : Fields) (past : List Event) (middle world : State) (old between new : List ℕ) (line : List ℕ) (left all : List (List ℕ)) → (progress : Progress cluster past middle old between (line ∷ left) all)
+    → RanPart cluster (past ++ progress.before) (events_in (event_of line)) world between new → RanPart cluster past (events_of all) world old new
+part_done cluster past middle world old between new line left all progress part =
     let others = events_in_first (event_of line) (events_of left) in
     let before = progress.before in
     let those = events_in (event_of line) in
@@ -121,11 +136,11 @@ part_done past middle world old between new line left all progress part =
       done = length before + part.done;
       done_before_written = omega (arith, part.done_before_written);
       within = omega (arith, part.within, ap length whole, length-append before (those ++ others.0), length-append those others.0);
-      stands = subst (λ p. StandsFor world p) (append_assoc past before (take part.done those) ∙ ap (λ t. past ++ t) (sym (taken part.done part.within))) part.stands;
+      stands = subst (λ p. StandsFor cluster world p) (append_assoc past before (take part.done those) ∙ ap (λ t. past ++ t) (sym (taken part.done part.within))) part.stands;
       text =
-          part.text ∙ ap (λ t. t ++ run_text (past ++ before) (take part.written those)) progress.ran.text
-          ∙ append_assoc old (run_text past before) (run_text (past ++ before) (take part.written those))
-          ∙ ap (λ t. old ++ t) (sym (run_text-append past before (take part.written those)) ∙ ap (λ t. run_text past t) (sym (taken part.written (omega (arith, part.done_before_written, part.within)))));
+          part.text ∙ ap (λ t. t ++ run_text cluster.policy (past ++ before) (take part.written those)) progress.ran.text
+          ∙ append_assoc old (run_text cluster.policy past before) (run_text cluster.policy (past ++ before) (take part.written those))
+          ∙ ap (λ t. old ++ t) (sym (run_text-append cluster.policy past before (take part.written those)) ∙ ap (λ t. run_text cluster.policy past t) (sym (taken part.written (omega (arith, part.done_before_written, part.within)))));
     }
 
 -- the lines of what may be left of a script

@@ -2,5 +2,5 @@ use Rattle.swift_main.proofs.Runs.{done_unwritten, on_err}
 use Rattle.swift_main.proofs.play.run_event.Goals as goal
 
 pub returns-clause-part : goal.returns-clause-part
-returns-clause-part c past stands =
-    on_err c.print.result (λ same. done_unwritten past c.args.event.now c.run.new.self c.args.text.now c.print.new.text (c.in_ok-end.ensures.ok past stands) same) c.print.ensures.err
+returns-clause-part c cluster past stands =
+    on_err c.print.result (λ same. done_unwritten cluster past c.args.event.now c.run.new.self c.args.text.now c.print.new.text (c.in_ok-end.ensures.ok cluster past stands) same) c.print.ensures.err

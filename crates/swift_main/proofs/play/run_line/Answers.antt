@@ -9,4 +9,4 @@ pub run_event-requires-clause-one_segment : goal.run_event-requires-clause-one_s
 run_event-requires-clause-one_segment c = one_segment c.args.line.now c.in-Ok-Some.event (c.in-Ok-Some.ensures.read ∙ ap Ok c.in-Ok-Some.field-0-is)
 
 pub returns-clause-part : goal.returns-clause-part
-returns-clause-part c wants past stands = nothing_done past (events_in (event_of c.args.line.now)) c.args.world.now c.args.text.now stands
+returns-clause-part c wants cluster past stands = nothing_done cluster past (events_in (event_of c.args.line.now)) c.args.world.now c.args.text.now stands

@@ -1,8 +1,9 @@
-use Rattle.std.proofs.Common.{map, refl, subst}
+use Rattle.std.proofs.Common.{map, refl, sym, ◌∙◌, subst}
 use Rattle.std.specs.Prelude.{string_bytes}
 use Rattle.sw_io.specs.Whole.{AppendsFront}
 use Rattle.swift_main.specs.Answer.{Gives}
 use Rattle.swift_main.specs.Outcome.{outcome_of, text_of}
+use Rattle.swift_main.proofs.Outcomes.{answer_decided}
 use Rattle.swift_main.proofs.Outsides.{answer_front, by_whole, nothing_written}
 use Rattle.swift_main.proofs.top.swift_main.Goals as goal
 
@@ -20,4 +21,9 @@ returns-in-Ok-clause-write_fault g c six =
 
 pub returns-clause-no_memory : goal.returns-clause-no_memory
 returns-clause-no_memory g c four =
-    nothing_written (g.S.Source.remaining c.args.input.now) (λ whole. (outcome_of (map (λ word. string_bytes word) c.args.words.now) whole).events) (g.O.Sink.written c.args.output.now)
+    nothing_written (g.S.Source.remaining c.args.input.now) (λ whole. (outcome_of (map (λ word. string_bytes word) c.args.words.now) whole).ends) (g.O.Sink.written c.args.output.now)
+
+pub returns-in-Ok-write_all-clause-write_fault : goal.returns-in-Ok-write_all-clause-write_fault
+returns-in-Ok-write_all-clause-write_fault g c six =
+    let words = map (λ word. string_bytes word) c.args.words.now in
+    absurd (answer_decided words c.in-Ok.whole.items c.decide-answer.result (subst (λ input. Gives (outcome_of words input) c.decide-answer.result) c.deref.ensures.value c.decide-answer.ensures) (sym c.code.ensures ∙ six))
