@@ -111,6 +111,7 @@ StandsFor-put cluster world past name body bytes stands =
     let put : Put = put_at name body (first_stamp + length (puts_of past)) in
     let e = puts_from-put first_stamp past name body in
     record {
+      rules = stands.rules;
       cluster_is = stands.cluster_is;
       nodes = rw (stands.cluster_is, stands.nodes, e, stands.puts) (with_put-after cluster (puts_of past) put);
       operations = rw length_push (ap (λ n. n + 1) stands.operations);
@@ -124,6 +125,7 @@ pub StandsFor-get : (cluster : Fields) (world : State) (past : List Event) (name
 StandsFor-get cluster world past name stands =
     let e = puts_from-get first_stamp past name in
     record {
+      rules = stands.rules;
       cluster_is = stands.cluster_is;
       nodes = rw e stands.nodes;
       operations = rw length_push (ap (λ n. n + 1) stands.operations);

@@ -82,6 +82,7 @@ pub record State : Type 0 where
 
 -- the world is what these events, from an empty world of this cluster on, lead to
 pub record StandsFor (cluster : Fields) (world : State) (past : List Event) : Type 0 where
+  pub rules : KeepsRules cluster
   pub cluster_is : world.cluster ≡ cluster
   pub nodes : world.nodes ≡ nodes_after cluster (puts_of past)
   pub operations : world.operations ≡ length past
