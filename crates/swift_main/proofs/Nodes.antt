@@ -1,11 +1,22 @@
--- The nodes while a put is stored.
-use Rattle.std.proofs.Common.{◌≡◌, ℕ, zero, suc, ◌+◌, ◌<◌, List, [], ◌∷◌, ◌++◌, length, map, take, drop, set, get_or, refl, ap, arith}
-use Rattle.std.specs.List.{All}
-use Rattle.std.proofs.lemmas.List.{append_assoc, drop-set-lt, drop_more, map_push, take-map, take_more_set}
-use Rattle.std.proofs.lemmas.List.Elements.{All-head, All-push, All-tail}
-use Rattle.sw_cauchy.specs.Stripe.{fragment, segment_fragments}
+-- The nodes of a new world, and while a put is stored.
+use Rattle.std.proofs.Common.{◌≡◌, ℕ, zero, suc, ◌+◌, ◌<◌, ◌≤◌, ◌≢◌, List, [], ◌∷◌, ◌++◌, length, map, replicate, take, drop, set, get_or, Option, refl, sym, ap, ◌∙◌, arith}
+use Rattle.std.specs.List.{AllWithin}
+use Rattle.std.proofs.lemmas.List.{append_assoc, drop-set-lt, drop_more, get_or-replicate, get_or-set_other, length-replicate, length-set, map_push, take-map, take_all, take_more_set}
+use Rattle.std.proofs.lemmas.List.FromFn.{fill_by_all}
+use Rattle.std.proofs.lemmas.Simd.{map-map}
+use Rattle.std.proofs.Math.Nat.{div-eq_of_lt}
+use Rattle.sw_cauchy.specs.Stripe.{fragment, fragment_width, padded, segment_fragment, segment_fragments}
+use Rattle.sw_ring.specs.Fields.{Fields}
+use Rattle.sw_ring.specs.Reading.{device_numbers}
+use Rattle.sw_ring.specs.declared.cluster.Device.{Device}
 use Rattle.swift_main.specs.declared.node.Stored.{Stored}
-use Rattle.swift_main.specs.Nodes.{kept}
+use Rattle.swift_main.specs.Nodes.{Kept, nodes_after}
+use Rattle.swift_main.specs.Storing.{stored, with_entry}
+
+-- one node for each device, which keeps nothing, are the nodes after no put
+pub nodes_after-none : (cluster : Fields) (devices : List Device) (i : ℕ) (nodes : List Kept) → map device_numbers devices ≡ cluster.devices → length devices ≤ i
+    → nodes ≡ map (λ device. record { device = device.id; entries = [] }) (take i devices) → nodes ≡ nodes_after cluster []
+nodes_after-none cluster devices i nodes listed all e = rw (e, take_all i devices all, ← listed) (simp map-map)
 
 -- a write after which f reads the same of the element changes nothing that f reads of the list
 pub map-set_same : {X Y : Type 0} (f : X → Y) (xs : List X) (i : ℕ) (x d : X) → f x ≡ f (get_or xs i d) → map f (set xs i x) ≡ map f xs
@@ -13,29 +24,28 @@ map-set_same f [] i x d e = refl
 map-set_same f (y ∷ ys) zero x d e = ap (λ z. z ∷ map f ys) e
 map-set_same f (y ∷ ys) (suc i) x d e = ap (λ zs. f y ∷ zs) (map-set_same f ys i x d e)
 
--- with the element that was written, one more of the first elements has P
-pub All-take_set : {X : Type 0} (P : X → Type 0) (xs : List X) (i : ℕ) (x : X) → i < length xs → All P (take i xs) → P x
-    → All P (take (i + 1) (set xs i x))
-All-take_set P xs i x within all here = rw (take_more_set xs i x within) (All-push P (take i xs) x all here)
-
--- where the rest has P, its first element has
-pub All-drop_head : {X : Type 0} (P : X → Type 0) (xs : List X) (i : ℕ) (d : X) → i < length xs → All P (drop i xs) → P (get_or xs i d)
-All-drop_head P xs i d within all = All-head P (get_or xs i d) (drop (i + 1) xs) (rw (drop_more xs i d within) at all)
-
--- and so has the rest after it, once that element is written
-pub All-drop_set : {X : Type 0} (P : X → Type 0) (xs : List X) (i : ℕ) (x d : X) → i < length xs → All P (drop i xs) → All P (drop (i + 1) (set xs i x))
-All-drop_set P xs i x d within all =
-    rw (drop-set-lt (i + 1) xs i x (omega arith)) (All-tail P (get_or xs i d) (drop (i + 1) xs) (rw (drop_more xs i d within) at all))
+-- a write at the first of the elements that P holds of leaves P to the others
+pub AllWithin-set_first : {X : Type 0} (P : X → Type 0) (xs : List X) (i : ℕ) (x : X) → AllWithin P xs i (length xs) → AllWithin P (set xs i x) (i + 1) (length (set xs i x))
+AllWithin-set_first P xs i x all = λ k d low high.
+    let other : k ≢ i = omega arith in
+    rw get_or-set_other (all k d (omega arith) (rw length-set at high))
 
 -- the first node of the rest gets the first entry of the rest
-pub kept_more : {X : Type 0} (f : X → List Stored) (nodes : List X) (i : ℕ) (node d : X) (entry : Stored) (entries : List Stored)
-    → i < length nodes → f node ≡ f (get_or nodes i d) ++ entry ∷ []
-    → take (i + 1) (map f (set nodes i node)) ++ kept (map f (drop (i + 1) (set nodes i node))) entries ≡ take i (map f nodes) ++ kept (map f (drop i nodes)) (entry ∷ entries)
-kept_more f nodes i node d entry entries within e =
-    rw (drop_more nodes i d within, take-map f (i + 1) (set nodes i node), take_more_set nodes i node within, drop-set-lt (i + 1) nodes i node (omega arith), map_push f (take i nodes) node, append_assoc (map f (take i nodes)) (f node ∷ []) (kept (map f (drop (i + 1) nodes)) entries), take-map f i nodes, e) refl
+pub stored_more : {X : Type 0} (f : X → Kept) (nodes : List X) (i : ℕ) (node d : X) (entry : Option Stored) (entries : List (Option Stored))
+    → i < length nodes → f node ≡ with_entry (f (get_or nodes i d)) entry
+    → take (i + 1) (map f (set nodes i node)) ++ stored (map f (drop (i + 1) (set nodes i node))) entries
+    ≡ take i (map f nodes) ++ stored (map f (drop i nodes)) (entry ∷ entries)
+stored_more f nodes i node d entry entries within e =
+    let before : i < i + 1 = omega arith in
+    rw (drop_more nodes i d within, take-map, take_more_set, drop-set-lt, map_push, append_assoc, take-map, e) refl
+
+-- a fragment of no width is empty
+fragment-empty : (k width : ℕ) (pieces : List ℕ) (i : ℕ) → width ≡ 0 → fragment k width pieces i ≡ []
+unfolding fragment
+fragment-empty k width pieces i none = rw none refl
 
 -- the fragments of an empty body are empty
-pub fragments-empty : (body : List ℕ) → length body ≡ 0 → segment_fragments 2 3 body ≡ [] ∷ [] ∷ [] ∷ []
-unfolding fragment
-fragments-empty [] none = refl
-fragments-empty (byte ∷ bytes) none = absurd (omega arith)
+pub fragments-empty : (k n : ℕ) (body : List ℕ) → 1 ≤ k → length body ≡ 0 → segment_fragments k n body ≡ replicate n []
+fragments-empty k n body some none =
+    let width : fragment_width k (length body) ≡ 0 = rw none (div-eq_of_lt (omega arith)) in
+    sym (fill_by_all (segment_fragment k body) (replicate n []) n [] (length-replicate n []) (λ i within. get_or-replicate n i [] [] within ∙ sym (fragment-empty k _ (padded k body) i width)))

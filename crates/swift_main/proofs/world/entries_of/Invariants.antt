@@ -1,6 +1,6 @@
 use Rattle.std.proofs.Common.{◌≡◌, ◌+◌, ◌++◌, length}
 use Rattle.std.specs.Vec.Iter.{into_iter_items}
-use Rattle.swift_main.specs.Nodes.{entries_from}
+use Rattle.swift_main.specs.Storing.{entries_from}
 use Rattle.swift_main.proofs.world.entries_of.Given as goal
 
 abbrev pub invariant-each : goal.invariant-each
