@@ -121,7 +121,13 @@ impl World {
     }
 
     // The body of the last put of a name, from the fragments at its first k primaries.
-    fn decode(&self, alloc: Global, part: u32, name: &Name, first: &Stored) -> Result<Bytes, NoMemory>
+    fn decode(
+        &self,
+        alloc: Global,
+        part: u32,
+        name: &Name,
+        first: &Stored,
+    ) -> Result<Bytes, NoMemory>
         requires part { part ≡ partition self.now.cluster name.now }
         requires first { newest name.now (entries_at self.now.nodes (slice_index (primaries self.now.cluster name.now) 0)) ≡ Some first.now }
         ensures { (cluster : Fields) (past : List Event) → StandsFor cluster self.now past → (put : Put) → latest name.now (puts_of past) ≡ Some put →

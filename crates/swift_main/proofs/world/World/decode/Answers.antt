@@ -88,6 +88,6 @@ returns c = λ cluster past stands put last.
     let all : c.each.index ≡ k = omega (arith, c.each-test.false, c.each.auto.index-end, k_is b) in
     let width = sym (first_width k put c.args.first.now first) in
     let gathered = c.each.invariant ∙ ap (λ n. record { k = k; m = m; width = n; shares = map share (range_with_len 0 c.each.index) }) width
-        ∙ ap (λ n. record { k = k; m = m; width = fragment_width k c.args.first.now.length; shares = map share (range_with_len 0 n) }) all in
+    ∙ ap (λ n. record { k = k; m = m; width = fragment_width k c.args.first.now.length; shares = map share (range_with_len 0 n) }) all in
     decoded_body c.finish.result c.each.gather k m c.args.first.now.length put.body share some (IsBytes-some c.args.name.now (puts_of past) put last stands.bytes) (sym (ap (λ (one : Stored). one.length) first)) (λ i. refl)
     (λ i below. ap fragment_in (held i (omega (arith, below)))) gathered c.finish.ensures

@@ -14,6 +14,7 @@ invariant_of-result c =
 pub returns : goal.returns
 returns c =
     record {
+      rules = c.devices-device-items.ensures.rules;
       cluster_is = refl;
       nodes = nodes_after-none c.args.cluster _ _ _ c.devices-device-items.ensures.listed (omega arith) c.each.invariant;
       operations = refl;
