@@ -1,8 +1,8 @@
 -- What a policy that breaks no bound is like.
-use Rattle.std.proofs.Common.{◌≡◌, ℕ, ◌+◌, ◌*◌, ◌<◌, ◌≤◌, ◌==◌, ◌||◌, Bool, true, false, nat_lt, cond, Option, Some, None, refl, arith}
+use Rattle.std.proofs.Common.{◌≡◌, ◌+◌, ◌*◌, ◌≤◌, ◌==◌, ◌||◌, Bool, true, false, nat_lt, cond, Option, Some, None, refl, arith}
 use Rattle.std.proofs.lemmas.Bool.Decides.{nat_tests}
-use Rattle.sw_types.specs.Policy.{Numbers, greatest_segment, greatest_total, policy_fault}
-use Rattle.sw_types.specs.declared.policy.PolicyFault.TheVariants.{K, M, N, Q, C, Segment}
+use Rattle.sw_types.specs.Policy.{Numbers, greatest_total, policy_fault}
+use Rattle.sw_types.specs.declared.policy.PolicyFault.TheVariants.{K, M, N}
 
 -- a bound that is kept, and those after it
 kept : {A : Type 0} (broken : Bool) (fault : A) (later : Option A) → cond broken (Some fault) later ≡ None → (broken ≡ false) × (later ≡ None)

@@ -1,5 +1,5 @@
 -- The body of a name's last put, decoded from the fragments at its first k primaries.
-use Rattle.std.proofs.Common.{◌≡◌, ℕ, zero, suc, ◌+◌, ◌-◌, ◌*◌, ◌/◌, ◌<◌, ◌≤◌, List, [], ◌∷◌, ◌++◌, Option, Some, None, Result, IfOk, length, map, take, replicate, get_or, refl, sym, ◌∙◌, ap, subst, lit<, arith}
+use Rattle.std.proofs.Common.{◌≡◌, ℕ, zero, suc, ◌+◌, ◌-◌, ◌*◌, ◌/◌, ◌<◌, ◌≤◌, List, [], ◌∷◌, ◌++◌, Option, Some, None, Result, IfOk, length, map, take, replicate, get_or, refl, sym, ◌∙◌, ap, lit<, arith}
 use Rattle.std.specs.Prelude.{◌≢◌}
 use Rattle.std.proofs.Math.Nat.{lt-div-mul-add, mul_comm}
 use Rattle.std.specs.List.{All, AllByRecursion, range_with_len}

@@ -1,6 +1,6 @@
 -- The puts of a run, and the nodes after one put more.
 use Rattle.std.proofs.Common.{◌≡◌, ℕ, zero, suc, ◌+◌, ◌<◌, ◌==◌, List, [], ◌∷◌, ◌++◌, length, map, Some, None, Option, refl, sym, ◌∙◌, ap, arith, append-nil}
-use Rattle.std.specs.List.{All, flat_map, position, range_with_len, slice_get}
+use Rattle.std.specs.List.{flat_map, position, range_with_len, slice_get}
 use Rattle.std.specs.Option.{option_and_then}
 use Rattle.std.proofs.lemmas.Grind.{flat_map-append}
 use Rattle.std.proofs.lemmas.List.{length_push}

@@ -1,5 +1,5 @@
 -- What is behind a body that a get found.
-use Rattle.std.specs.Prelude.{◌≡◌, ◌≢◌, ℕ, ◌+◌, ◌<◌, List, [], ◌∷◌, ◌++◌, slice_index, Contains}
+use Rattle.std.specs.Prelude.{◌≡◌, ◌≢◌, ℕ, ◌+◌, ◌<◌, List, ◌∷◌, ◌++◌, slice_index, Contains}
 use Rattle.std.specs.List.{All}
 use Rattle.sw_types.specs.Name.{Parts}
 use Rattle.sw_ring.specs.Fields.{Fields}

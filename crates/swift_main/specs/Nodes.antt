@@ -1,6 +1,6 @@
 -- What the nodes keep of a run: each of the put objects the fragment of the index whose primary the node's device is.
-use Rattle.std.specs.Prelude.{◌≡◌, ℕ, ◌+◌, ◌≤◌, ◌==◌, ◌&&◌, true, List, [], ◌∷◌, ◌++◌, find, flat_map, length, map, position, reverse, slice_index, Option, Some, None}
-use Rattle.std.specs.List.{All, range_with_len}
+use Rattle.std.specs.Prelude.{◌≡◌, ℕ, ◌≤◌, ◌==◌, ◌&&◌, true, List, [], ◌∷◌, ◌++◌, find, flat_map, length, map, position, reverse, Option, Some, None}
+use Rattle.std.specs.List.{All}
 use Rattle.sw_words.specs.Bytes.{IsBytes}
 use Rattle.sw_types.specs.Name.{Parts, name_eq}
 use Rattle.sw_cauchy.specs.Stripe.{segment_fragment}

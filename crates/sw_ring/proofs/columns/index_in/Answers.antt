@@ -1,5 +1,5 @@
-use Rattle.std.proofs.Common.{rules, ap, ◌∙◌, sym, length, nat_lt, cond, Some, None}
-use Rattle.std.specs.List.{slice_get, position, position_or_len}
+use Rattle.std.proofs.Common.{rules, ◌∙◌, sym}
+use Rattle.std.specs.List.{slice_get}
 use Rattle.std.proofs.lemmas.Iterator.{YieldsList-from_slice}
 use Rattle.std.proofs.lemmas.Iterator.Search.{position_from_yields_List}
 use Rattle.sw_ring.specs.Ring.{option_is}

@@ -1,4 +1,3 @@
-use Rattle.std.proofs.Common.{◌≤◌, ◌*◌, ◌+◌, arith}
 use Rattle.sw_types.proofs.Policies.{bounds}
 use Rattle.swift_main.proofs.world.code_of.Goals as goal
 

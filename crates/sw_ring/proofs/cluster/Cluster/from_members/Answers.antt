@@ -4,9 +4,7 @@ use Rattle.std.proofs.lemmas.List.{with_items_is}
 use Rattle.std.proofs.lemmas.List.Sorted.{IsPermutation-map}
 use Rattle.std.proofs.lemmas.Map.Keys.{IsDistinct-IsPermutation, IsStrictlyIncreasing-from_distinct}
 use Rattle.std.specs.Vec.{with_items}
-use Rattle.sw_ring.specs.Cluster.{IsCluster}
 use Rattle.sw_ring.specs.Fields.{DeviceNumbers}
-use Rattle.sw_ring.specs.Inside.{cluster_seen}
 use Rattle.sw_ring.specs.Reading.{members_seen}
 use Rattle.sw_ring.proofs.Soundness.{distinct, keeps, rules_kept}
 use Rattle.sw_ring.proofs.cluster.Cluster.from_members.Goals as goal

@@ -1,4 +1,4 @@
-use Rattle.std.proofs.Common.{ap, sym, ◌∙◌, Some, None}
+use Rattle.std.proofs.Common.{◌∙◌}
 use Rattle.sw_ring.proofs.Partition.{index_among, no_index}
 use Rattle.sw_ring.proofs.cluster.Cluster.index_of.Goals as goal
 

@@ -1,17 +1,16 @@
-use Rattle.std.proofs.Common.{◌≡◌, ℕ, ◌+◌, ◌<◌, length, map, Option, Some, None, refl, sym, ap, subst, ◌∙◌, arith}
+use Rattle.std.proofs.Common.{◌≡◌, length, map, Option, Some, None, refl, sym, ap, subst, ◌∙◌, arith}
 use denote.Bor.{Bor}
 use Rattle.std.specs.List.{range_with_len}
 use Rattle.std.specs.Option.{IsSome, option_copied}
 use Rattle.std.proofs.lemmas.List.FromFn.{length-map-range_with_len}
-use Rattle.sw_types.proofs.Policies.{Bounds, bounds}
+use Rattle.sw_types.proofs.Policies.{bounds}
 use Rattle.sw_cauchy.specs.Share.{Gathered}
-use Rattle.sw_cauchy.specs.Stripe.{fragment_width, padded, segment_fragment}
-use Rattle.sw_ring.specs.Cluster.{KeepsRules}
+use Rattle.sw_cauchy.specs.Stripe.{fragment_width}
 use Rattle.swift_main.specs.declared.node.Stored.{Stored}
-use Rattle.swift_main.specs.Nodes.{IsPlayed, State, entries_at, newest, nodes_after, stored_of}
+use Rattle.swift_main.specs.Nodes.{IsPlayed, State, nodes_after, stored_of}
 use Rattle.swift_main.specs.Run.{puts_of}
 use Rattle.swift_main.proofs.Decodes.{Behind, all_others, behind, decoded_body, first_width, fragment_in, made_of, same_width, share_at, shares_push}
-use Rattle.swift_main.proofs.Holds.{IsBytes-some, primary_at}
+use Rattle.swift_main.proofs.Holds.{IsBytes-some}
 use Rattle.swift_main.proofs.world.World.decode.Goals as goal
 use Rattle.swift_main.proofs.world.World.decode.Goals.{In_ok-gather, After-newest, After-as_slice}
 

@@ -1,13 +1,12 @@
-use Rattle.std.proofs.Common.{◌≡◌, ℕ, List, Option, Some, None, refl, sym, ap, subst, ◌∙◌, arith}
+use Rattle.std.proofs.Common.{◌≡◌, List, sym, ap, subst, ◌∙◌, arith}
 use Rattle.std.specs.Option.{option_copied, option_map}
 use Rattle.sw_types.proofs.Policies.{bounds}
 use Rattle.sw_ring.specs.Cluster.{KeepsRules}
 use Rattle.sw_ring.specs.Fields.{Fields}
 use Rattle.swift_main.specs.declared.end.End.TheVariants.{Found}
 use Rattle.swift_main.specs.declared.event.Event.{Event}
-use Rattle.swift_main.specs.Nodes.{StandsFor, State, entries_at, newest, nodes_after, stored_of}
+use Rattle.swift_main.specs.Nodes.{StandsFor, State, entries_at, newest, stored_of}
 use Rattle.swift_main.specs.Run.{get_end, latest, puts_of}
-use Rattle.swift_main.proofs.Decodes.{made_of}
 use Rattle.swift_main.proofs.Holds.{newest_held, none_put, primary_at, some_put}
 use Rattle.swift_main.proofs.world.World.get.Goals as goal
 use Rattle.swift_main.proofs.world.World.get.Goals.{After-newest}

@@ -1,11 +1,11 @@
-use Rattle.std.proofs.Common.{◌≡◌, ◌==◌, ◌<◌, ◌^◌, slice_index, map, Some, None, sym, ap, subst, ◌∙◌, rules, tests}
+use Rattle.std.proofs.Common.{◌≡◌, ◌==◌, ◌<◌, ◌^◌, slice_index, map, sym, ap, subst, ◌∙◌, rules, tests}
 use Rattle.std.specs.List.{find}
 use Rattle.std.specs.Option.{option_copied, option_map}
 use Rattle.std.proofs.lemmas.Iterator.{YieldsList-from_slice}
 use Rattle.std.proofs.lemmas.Iterator.Search.{find_from_yields_List}
 use Rattle.sw_ring.specs.Cluster.{column_of}
 use Rattle.swift_main.specs.declared.node.Node.{Node}
-use Rattle.swift_main.specs.Nodes.{entries_at, entries_of, kept_by, newest, partition, primaries}
+use Rattle.swift_main.specs.Nodes.{entries_at, entries_of, kept_by, newest, partition}
 use Rattle.swift_main.proofs.Holds.{partition_below, primary_at}
 use Rattle.swift_main.proofs.Searches.{find-map}
 use Rattle.swift_main.proofs.world.World.newest.Goals as goal

@@ -1,15 +1,14 @@
-use Rattle.std.proofs.Common.{◌≡◌, ◌<◌, ◌++◌, ◌+◌, ◌==◌, ℕ, length, map, take, drop, refl, sym, ap, ◌∙◌, arith}
+use Rattle.std.proofs.Common.{◌≡◌, ◌++◌, ◌+◌, ◌==◌, ℕ, length, map, take, drop, refl, sym, ap, ◌∙◌, arith}
 use Rattle.std.specs.List.{position, range_with_len, slice_get}
 use Rattle.std.specs.Option.{option_and_then}
-use Rattle.std.proofs.lemmas.List.{length-map, take_at}
+use Rattle.std.proofs.lemmas.List.{take_at}
 use Rattle.std.proofs.lemmas.List.FromFn.{length-map-range_with_len}
 use Rattle.sw_types.proofs.Policies.{bounds}
 use Rattle.sw_cauchy.specs.Stripe.{segment_fragment, segment_fragments}
 use Rattle.sw_hashpath.specs.Place.{Spot}
 use Rattle.sw_ring.proofs.Roles.{column_length}
-use Rattle.sw_ring.specs.Cluster.{column_of}
 use Rattle.swift_main.specs.declared.node.Node.{Node}
-use Rattle.swift_main.specs.Nodes.{State, kept_by, partition, primaries, stored_of, with_put}
+use Rattle.swift_main.specs.Nodes.{kept_by, partition, primaries, stored_of, with_put}
 use Rattle.swift_main.specs.Run.{Put}
 use Rattle.swift_main.specs.Storing.{stored}
 use Rattle.swift_main.proofs.Puts.{IsPlayed-put, entries_from-put, stored-put}
