@@ -1,9 +1,9 @@
 //! The rules of a ring: which of them its rows and its devices break.
 
-ghost use Rattle.std.specs.Prelude.{◌≡◌, ◌≤◌, ◌+◌, ◌^◌, ◌⊎◌, [], map, IfErr, IfOk, MatchResult, None, Some, option_map, slice_get};
+ghost use Rattle.std.specs.Prelude.{◌≡◌, ◌+◌, ◌⊎◌, [], map, IfOk, MatchResult, None, Some, option_map, slice_get};
 ghost use Rattle.sw_types.specs.Policy.{policy_fault};
 ghost use Rattle.sw_ring.specs.Reading.{device_numbers, members_seen, policy_numbers};
-ghost use Rattle.sw_ring.specs.Ring.{duplicate_after, has_at, is_among, odd_row, option_is, ring_fault, rows_fault, twice_after, twice_in, unknown_device, unknown_in};
+ghost use Rattle.sw_ring.specs.Ring.{duplicate_after, has_at, odd_row, option_is, ring_fault, rows_fault, twice_after, twice_in, unknown_device, unknown_in};
 
 use crate::cluster::Device;
 use crate::fault::RingFault;

@@ -1,9 +1,9 @@
 //! How an operation ended, and the line that says it.
 
 ghost use Rattle.std.specs.Prelude.{◌≡◌, ◌++◌, OnOk, OnErr, IfOk, string_bytes};
-ghost use Rattle.swift_main.specs.Run.{end_line, end_text, indices_text};
+ghost use Rattle.swift_main.specs.Run.{end_line, indices_text};
 
-use std::alloc::{AllocError, Global};
+use std::alloc::Global;
 use sw_types::{Bytes, NoMemory, Stamp, print_hex};
 
 /// How an operation ended.

@@ -1,6 +1,6 @@
 //! The parts of the whole input.
 
-ghost use Rattle.std.specs.Prelude.{◌≡◌, ◌⊎◌, ◌+◌, ◌≤◌, true, Ok, Err, IfErr, IfOk, length};
+ghost use Rattle.std.specs.Prelude.{◌≡◌, ◌⊎◌, ◌+◌, true, Ok, Err, IfErr, IfOk};
 ghost use Rattle.sw_ring.specs.Cluster.{IsCluster, ring_of};
 ghost use Rattle.sw_ring.specs.Fields.{Fields};
 ghost use Rattle.swift_main.specs.Input.{after_empty, before_empty, ring_text};

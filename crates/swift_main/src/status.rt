@@ -1,7 +1,7 @@
 //! How the program ends.
 
 ghost use Rattle.std.specs.Prelude.{◌≡◌, ◌++◌, OnOk, OnErr};
-ghost use Rattle.swift_main.specs.Outcome.{fault_number, last_line, status_code};
+ghost use Rattle.swift_main.specs.Outcome.{last_line, status_code};
 
 use crate::event::LineFault;
 use std::alloc::Global;

@@ -1,6 +1,6 @@
 //! The world: a cluster, a node for each of its devices, and the operations that were run over them.
 
-ghost use Rattle.std.specs.Prelude.{◌≡◌, ℕ, ◌+◌, ◌*◌, ◌≤◌, ◌<◌, ◌^◌, ◌==◌, ◌++◌, [], ◌∷◌, List, Some, IfOk, OnOk, OnErr, length, map, position, slice_get, slice_index, vec_len, vec_capacity};
+ghost use Rattle.std.specs.Prelude.{◌≡◌, ◌+◌, ◌≤◌, ◌<◌, ◌^◌, ◌==◌, ◌++◌, [], ◌∷◌, List, Some, IfOk, OnOk, OnErr, length, map, position, slice_get, slice_index, vec_len, vec_capacity};
 ghost use Rattle.sw_words.specs.Bytes.{IsBytes};
 ghost use Rattle.std.specs.List.{All};
 ghost use Rattle.std.specs.Option.{option_and_then, option_copied};
