@@ -1,6 +1,7 @@
 -- What members that break no rule are like.
 use Rattle.std.proofs.Common.{◌≡◌, ℕ, zero, suc, ◌+◌, ◌^◌, ◌<◌, ◌≤◌, ◌==◌, ◌||◌, eqb, cond, Bool, true, false, nat_lt, List, [], ◌∷◌, length, get_or, map, Option, Some, None, refl, sym, ◌∙◌, ap, subst, arith}
 use Rattle.std.specs.Prelude.{◌≢◌}
+use Rattle.std.proofs.lemmas.Bool.{or_parts}
 use Rattle.std.proofs.lemmas.Bool.Decides.{Decides-eqb, nat_tests}
 use Rattle.std.proofs.lemmas.List.Elements.{All-from_recursion}
 use Rattle.std.proofs.lemmas.List.Sorted.{IsPermutation-map, length_permutation, list_any-IsPermutation}
@@ -30,10 +31,6 @@ not_found false x later h = (refl, h)
 met : {A : Type 0} (test : Bool) (x : A) (later : Option A) → cond test later (Some x) ≡ None → (test ≡ true) × (later ≡ None)
 met true x later h = (refl, h)
 met false x later h = cc
-
-neither : (a b : Bool) → (a || b) ≡ false → (a ≡ false) × (b ≡ false)
-neither true b h = cc
-neither false b h = (refl, h)
 
 pub record Keeps (f : Fields) : Type 0 where
   pub part_power : f.part_power ≤ 16
@@ -79,11 +76,11 @@ even_rows number places (row ∷ rows) h (suc i) within = even_rows (number + 1)
 
 weaker : (earlier : List ℕ) (id : ℕ) (ids : List ℕ) → AllByRecursion (λ other. is_among (id ∷ earlier) other ≡ false) ids → AllByRecursion (λ other. is_among earlier other ≡ false) ids
 weaker earlier id [] h = tt
-weaker earlier id (other ∷ ids) h = ((neither (id == other) (is_among earlier other) h.0).1, weaker earlier id ids h.1)
+weaker earlier id (other ∷ ids) h = ((or_parts (id == other) (is_among earlier other) h.0).1, weaker earlier id ids h.1)
 
 others : (earlier : List ℕ) (id : ℕ) (ids : List ℕ) → AllByRecursion (λ other. is_among (id ∷ earlier) other ≡ false) ids → AllByRecursion (λ other. eqb id other ≡ false) ids
 others earlier id [] h = tt
-others earlier id (other ∷ ids) h = ((neither (id == other) (is_among earlier other) h.0).0, others earlier id ids h.1)
+others earlier id (other ∷ ids) h = ((or_parts (id == other) (is_among earlier other) h.0).0, others earlier id ids h.1)
 
 -- ids of which none stands before, and none stands twice
 apart : (earlier ids : List ℕ) → duplicate_after earlier ids ≡ None → AllByRecursion (λ id. is_among earlier id ≡ false) ids × IsDistinct eqb ids

@@ -1,5 +1,6 @@
 -- What a policy that breaks no bound is like.
 use Rattle.std.proofs.Common.{◌≡◌, ◌+◌, ◌*◌, ◌≤◌, ◌==◌, ◌||◌, Bool, true, false, nat_lt, cond, Option, Some, None, refl, arith}
+use Rattle.std.proofs.lemmas.Bool.{or_parts}
 use Rattle.std.proofs.lemmas.Bool.Decides.{nat_tests}
 use Rattle.sw_types.specs.Policy.{Numbers, greatest_total, policy_fault}
 use Rattle.sw_types.specs.declared.policy.PolicyFault.TheVariants.{K, M, N}
@@ -8,10 +9,6 @@ use Rattle.sw_types.specs.declared.policy.PolicyFault.TheVariants.{K, M, N}
 kept : {A : Type 0} (broken : Bool) (fault : A) (later : Option A) → cond broken (Some fault) later ≡ None → (broken ≡ false) × (later ≡ None)
 kept true fault later h = absurd (cc)
 kept false fault later h = (refl, h)
-
-neither : (a b : Bool) → (a || b) ≡ false → (a ≡ false) × (b ≡ false)
-neither true b h = absurd (cc)
-neither false b h = (refl, h)
 
 -- what codes need of it
 pub record Bounds (p : Numbers) : Type 0 where
@@ -25,7 +22,7 @@ bounds p h =
     let first = kept (p.k == 0) (K p.k) _ h in
     let parity = kept (p.m == 0 || nat_lt (3 * p.k) p.m) (M p.m) _ first.1 in
     let total = kept (nat_lt greatest_total (p.k + p.m)) (N (p.k + p.m)) _ parity.1 in
-    let parts = neither (p.m == 0) (nat_lt (3 * p.k) p.m) parity.0 in
+    let parts = or_parts (p.m == 0) (nat_lt (3 * p.k) p.m) parity.0 in
     let none : (p.k == 0) ≡ false = first.0 in
     let few : (p.m == 0) ≡ false = parts.0 in
     let most : nat_lt (3 * p.k) p.m ≡ false = parts.1 in

@@ -1,6 +1,7 @@
 -- A body that was found is that of the last put of its name, and the nodes hold its fragments.
 use Rattle.std.proofs.Common.{◌≡◌, ℕ, suc, ◌+◌, Bool, true, false, cond, List, [], ◌∷◌, ◌++◌, reverse, get_or, take, drop, Option, Some, None, refl, sym, ◌∙◌, ap, subst, arith, append_assoc}
 use Rattle.std.specs.List.{All, AllByRecursion, Contains, find, flat_map}
+use Rattle.std.specs.Option.{option_or}
 use Rattle.std.specs.Prelude.{◌≢◌}
 use Rattle.std.proofs.lemmas.Bool.{both_ways}
 use Rattle.std.proofs.Math.Seq.{drop-cons}
@@ -18,7 +19,7 @@ use Rattle.swift_main.specs.Found.{AreHeld, IsFound, IsLast}
 use Rattle.swift_main.specs.Nodes.{Kept, kept_of, nodes_after, stored_of}
 use Rattle.swift_main.specs.Run.{Put, end_of, get_end, latest, puts_from, puts_of, first_stamp}
 use Rattle.swift_main.proofs.Holds.{kept_of-primary, primary_at, primary_entries}
-use Rattle.swift_main.proofs.Searches.{find_back-append, or_first}
+use Rattle.swift_main.proofs.Searches.{find_back-append}
 
 -- the last put that passes a test, and those round it
 record LastPassing (test : Put → Bool) (puts : List Put) (put : Put) : Type 0 where
@@ -29,10 +30,10 @@ record LastPassing (test : Put → Bool) (puts : List Put) (put : Put) : Type 0 
   others : AllByRecursion (λ other. test other ≡ false) later
 
 -- a search from the back, at one put more in front
-from_back : (test : Put → Bool) (put : Put) (puts : List Put) → find test (reverse (put ∷ puts)) ≡ or_first (find test (reverse puts)) (cond (test put) (Some put) None)
+from_back : (test : Put → Bool) (put : Put) (puts : List Put) → find test (reverse (put ∷ puts)) ≡ option_or (find test (reverse puts)) (cond (test put) (Some put) None)
 from_back test put puts = find_back-append test (put ∷ []) puts
 
-neither : (found : Option Put) (passes : Bool) (put : Put) → or_first found (cond passes (Some put) None) ≡ None → (found ≡ None) × (passes ≡ false)
+neither : (found : Option Put) (passes : Bool) (put : Put) → option_or found (cond passes (Some put) None) ≡ None → (found ≡ None) × (passes ≡ false)
 neither (Some other) passes put h = absurd (cc)
 neither None true put h = absurd (cc)
 neither None false put h = (refl, refl)
@@ -48,7 +49,7 @@ only_first true first put h = let same : first ≡ put = cc in (refl, same)
 only_first false first put h = absurd (cc)
 
 more_in_front : (test : Put → Bool) (first : Put) (puts : List Put) (put : Put) (found : Option Put) → find test (reverse puts) ≡ found
-    → ((other : Put) → find test (reverse puts) ≡ Some other → LastPassing test puts other) → or_first found (cond (test first) (Some first) None) ≡ Some put → LastPassing test (first ∷ puts) put
+    → ((other : Put) → find test (reverse puts) ≡ Some other → LastPassing test puts other) → option_or found (cond (test first) (Some first) None) ≡ Some put → LastPassing test (first ∷ puts) put
 more_in_front test first puts put (Some other) is behind h =
     let same : other ≡ put = cc in
     let last = behind put (is ∙ ap (λ (one : Put). Some one) same) in

@@ -1,7 +1,7 @@
 -- What the primaries of a name hold of the objects that were put.
 use Rattle.std.proofs.Common.{◌≡◌, ℕ, ◌+◌, ◌-◌, ◌^◌, ◌<◌, ◌==◌, ◌&&◌, ◌||◌, Bool, true, false, cond, List, [], ◌∷◌, length, map, reverse, slice_index, Option, Some, None, IfSome, refl, sym, ◌∙◌, ap, subst, arith}
 use Rattle.std.specs.List.{All, find, flat_map, position}
-use Rattle.std.specs.Option.{option_map}
+use Rattle.std.specs.Option.{option_map, option_or}
 use Rattle.std.proofs.lemmas.Bool.Decides.{nat_tests}
 use Rattle.std.proofs.lemmas.List.{get_or-reverse, length-reverse}
 use Rattle.std.proofs.lemmas.List.Elements.{All-head, All-tail}
@@ -16,7 +16,7 @@ use Rattle.sw_ring.specs.Ring.{is_among}
 use Rattle.swift_main.specs.declared.node.Stored.{Stored}
 use Rattle.swift_main.specs.Nodes.{Kept, entries_at, entries_of, kept_of, newest, node_after, nodes_after, partition, primaries, stored_at, stored_of}
 use Rattle.swift_main.specs.Run.{Put, latest}
-use Rattle.swift_main.proofs.Searches.{find_back-append, or_first}
+use Rattle.swift_main.proofs.Searches.{find_back-append}
 
 -- the partition of a name is one of those that there are
 pub partition_below : (cluster : Fields) (name : Parts) → KeepsRules cluster → partition cluster name < 2 ^ cluster.part_power
@@ -76,7 +76,7 @@ one_kept cluster device index name put at =
     one_by cluster.policy.k index name put (name_eq put.name name) (position (λ id. id == device) (primaries cluster put.name)) refl
     (λ same. ap (λ n. position (λ id. id == device) (primaries cluster n)) (name_eq-true put.name name same) ∙ at)
 
-map_first : {X Y : Type 0} (f : X → Y) (first other : Option X) → option_map f (or_first first other) ≡ or_first (option_map f first) (option_map f other)
+map_first : {X Y : Type 0} (f : X → Y) (first other : Option X) → option_map f (option_or first other) ≡ option_or (option_map f first) (option_map f other)
 map_first f (Some x) other = refl
 map_first f None other = refl
 
@@ -87,8 +87,8 @@ newest_kept cluster device index name (put ∷ puts) at =
     let f = λ (put : Put). stored_of cluster.policy.k put index in
     let here : Option Put = cond (name_eq put.name name) (Some put) None in
     find_back-append (is_entry_of name) (kept_of cluster device put) (flat_map (kept_of cluster device) puts)
-    ∙ ap (λ rest. or_first rest (find (is_entry_of name) (reverse (kept_of cluster device put)))) (newest_kept cluster device index name puts at)
-    ∙ ap (λ one. or_first (option_map f (latest name puts)) one) (one_kept cluster device index name put at)
+    ∙ ap (λ rest. option_or rest (find (is_entry_of name) (reverse (kept_of cluster device put)))) (newest_kept cluster device index name puts at)
+    ∙ ap (λ one. option_or (option_map f (latest name puts)) one) (one_kept cluster device index name put at)
     ∙ sym (map_first f (latest name puts) here)
     ∙ sym (ap (option_map f) (find_back-append (λ put. name_eq put.name name) (put ∷ []) puts))
 

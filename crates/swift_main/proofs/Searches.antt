@@ -1,20 +1,12 @@
 -- Searches from the back of a list.
 use Rattle.std.proofs.Common.{◌≡◌, Bool, true, false, cond, List, [], ◌∷◌, ◌++◌, map, reverse, Option, Some, None, refl, ap, ◌∙◌}
 use Rattle.std.specs.List.{find}
-use Rattle.std.specs.Option.{option_map}
+use Rattle.std.specs.Option.{option_map, option_or}
 use Rattle.std.proofs.lemmas.List.{reverse-append}
-
-abbrev pub or_first : {X : Type 0} → Option X → Option X → Option X
-or_first (Some x) other = Some x
-or_first None other = other
-
-find-append : {X : Type 0} (test : X → Bool) (first more : List X) → find test (first ++ more) ≡ or_first (find test first) (find test more)
-find-append test [] more = refl
-find-append {X} test (x ∷ xs) more =
-    elim (test x) as (λ passes. cond passes (Some x) (find test (xs ++ more)) ≡ or_first (cond passes (Some x) (find test xs)) (find test more)) [ true ↦ refl | false ↦ find-append test xs more ]
+use Rattle.std.proofs.lemmas.List.Folds.{find-append}
 
 -- one list behind another
-pub find_back-append : {X : Type 0} (test : X → Bool) (first more : List X) → find test (reverse (first ++ more)) ≡ or_first (find test (reverse more)) (find test (reverse first))
+pub find_back-append : {X : Type 0} (test : X → Bool) (first more : List X) → find test (reverse (first ++ more)) ≡ option_or (find test (reverse more)) (find test (reverse first))
 find_back-append test first more = ap (λ all. find test all) (reverse-append first more) ∙ find-append test (reverse more) (reverse first)
 
 -- a search among elements that f made is one among those that it made them of
