@@ -5,7 +5,9 @@ use Rattle.std.specs.List.Sorted.{IsPermutation, IsStrictlyIncreasing}
 use Rattle.std.specs.Str.{is_utf8}
 use Rattle.serde_json.specs.Data.{Data}
 use Rattle.serde_json.specs.Read.{read as read_text}
+use Rattle.sw_types.specs.Name.{Parts}
 use Rattle.sw_types.specs.Policy.{policy_fault}
+use Rattle.sw_hashpath.specs.Place.{Spot, hash_of, spot_of}
 use Rattle.sw_ring.specs.declared.fault.RingFault.{RingFault}
 use Rattle.sw_ring.specs.declared.fault.RingFault.TheVariants.{NotJson}
 use Rattle.sw_ring.specs.Fields.{◌>>=◌, Fields, fields_of}
@@ -44,6 +46,10 @@ pub record IsCluster (fields cluster : Fields) : Type 0 where
   pub rows : cluster.rows ≡ fields.rows
   pub devices : IsPermutation fields.devices cluster.devices
   pub ascending : IsStrictlyIncreasing (ids_of cluster)
+
+-- the place of a name
+abbrev pub place_of_name : Fields → Parts → Spot
+place_of_name cluster name = spot_of (hash_of name cluster.prefix cluster.suffix) cluster.part_power
 
 -- the devices of a partition, by index
 abbrev pub column_of : Fields → ℕ → List ℕ

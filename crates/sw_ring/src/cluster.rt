@@ -1,8 +1,7 @@
 //! A cluster, and what it says of its partitions.
 
 ghost use Rattle.std.specs.Prelude.{◌≡◌, ◌⊎◌, ◌+◌, ◌^◌, ◌<◌, ◌≤◌, ◌==◌, None, Ok, Err, IfErr, IfOk, map, position, slice_index};
-ghost use Rattle.sw_hashpath.specs.Place.{hash_of, spot_of};
-ghost use Rattle.sw_ring.specs.Cluster.{IsCluster, KeepsRules, column_of, handoffs_of, ring_of};
+ghost use Rattle.sw_ring.specs.Cluster.{IsCluster, KeepsRules, column_of, handoffs_of, place_of_name, ring_of};
 ghost use Rattle.sw_ring.specs.Fields.{Fields};
 ghost use Rattle.sw_ring.specs.Reading.{members_seen, policy_numbers};
 ghost use Rattle.sw_ring.specs.Ring.{ring_fault};
@@ -135,7 +134,7 @@ impl Cluster {
 
     /// The place of a name.
     pub fn place(&self, alloc: Global, name: &Name) -> Result<Place, NoMemory>
-        ensures place { IfOk result (λ place. place ≡ spot_of (hash_of name.now self.now.prefix self.now.suffix) self.now.part_power) }
+        ensures place { IfOk result (λ place. place ≡ place_of_name self.now name.now) }
         ensures below { IfOk result (λ place. place.part < 2 ^ self.now.part_power) }
     {
         let prefix = self.prefix.as_bytes();

@@ -1,11 +1,10 @@
--- What the nodes keep of a run: each of the put objects the fragment of the index whose primary the node's device is.
+-- What the nodes keep of a run: of each object that was put, the fragment of the index whose primary is the node's device.
 use Rattle.std.specs.Prelude.{◌≡◌, ℕ, ◌≤◌, ◌==◌, ◌&&◌, true, List, [], ◌∷◌, ◌++◌, find, flat_map, length, map, position, reverse, Option, Some, None}
 use Rattle.std.specs.List.{All}
 use Rattle.sw_words.specs.Bytes.{IsBytes}
 use Rattle.sw_types.specs.Name.{Parts, name_eq}
 use Rattle.sw_cauchy.specs.Stripe.{segment_fragment}
-use Rattle.sw_hashpath.specs.Place.{hash_of, part_of}
-use Rattle.sw_ring.specs.Cluster.{KeepsRules, column_of, ids_of}
+use Rattle.sw_ring.specs.Cluster.{KeepsRules, column_of, ids_of, place_of_name}
 use Rattle.sw_ring.specs.Fields.{Fields}
 use Rattle.swift_main.specs.declared.event.Event.{Event}
 use Rattle.swift_main.specs.declared.event.Event.TheVariants as event
@@ -23,7 +22,7 @@ kept_by node = record { device = node.device; entries = node.entries.items }
 
 -- the partition of a name, and its devices, by index
 abbrev pub partition : Fields → Parts → ℕ
-partition cluster name = part_of (hash_of name cluster.prefix cluster.suffix) cluster.part_power
+partition cluster name = (place_of_name cluster name).part
 
 abbrev pub primaries : Fields → Parts → List ℕ
 primaries cluster name = column_of cluster (partition cluster name)

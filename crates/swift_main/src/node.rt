@@ -1,11 +1,11 @@
 //! A node: a plain list of the fragments that it keeps.
 
-ghost use Rattle.std.specs.Prelude.{◌≡◌, [], IfOk};
+ghost use Rattle.std.specs.Prelude.{◌≡◌, []};
 ghost use Rattle.std.specs.Option.{option_copied};
 ghost use Rattle.swift_main.specs.Nodes.{newest};
 
-use std::alloc::Global;
-use sw_types::{Bytes, Name, NoMemory, Stamp};
+use std::alloc::{AllocError, Global};
+use sw_types::{Bytes, Name, Stamp};
 
 /// A fragment of an object, as a node keeps it.
 #[derive(Debug, Drop)]
@@ -19,11 +19,10 @@ pub struct Stored {
     pub durable: bool,
 }
 
-impl Stored {
-    /// The same entry once more.
-    pub fn copied(&self) -> Result<Stored, NoMemory>
-        ensures { IfOk result (λ copy. copy ≡ self.now) }
-    {
+impl Clone for Stored {
+    ghost is_clone = { λ entry copy. copy ≡ entry };
+
+    fn clone(&self) -> Result<Stored, AllocError> {
         let name = self.name.clone()?;
         let fragment = self.fragment.clone()?;
         Ok(Stored {

@@ -251,7 +251,7 @@ fn placed(
     let mut placed = Vec::new(alloc);
     'each: for node in nodes {
         let entry = match cluster.index_of(part, node.device) {
-            Some(index) => Some(entries[index as usize].copied()?),
+            Some(index) => Some(entries[index as usize].clone()?),
             None => None,
         };
         placed.push(entry)?;
