@@ -1,5 +1,5 @@
-use Rattle.std.proofs.Common.{◌≡◌, ◌++◌, ◌+◌, ◌==◌, ℕ, length, map, take, drop, refl, sym, ap, ◌∙◌, arith}
-use Rattle.std.specs.List.{position, range_with_len, slice_get}
+use Rattle.std.proofs.Common.{◌≡◌, ◌<◌, ◌++◌, ◌+◌, ◌==◌, ℕ, length, map, take, drop, vec_len, vec_capacity, refl, sym, ap, subst, ◌∙◌, arith}
+use Rattle.std.specs.List.{All, position, range_with_len, slice_get}
 use Rattle.std.specs.Option.{option_and_then}
 use Rattle.std.proofs.lemmas.List.{take_at}
 use Rattle.std.proofs.lemmas.List.FromFn.{length-map-range_with_len}
@@ -48,6 +48,12 @@ placed-requires-clause-entries c =
     ap length (c.deref-2.ensures.value ∙ entries b)
     ∙ length-map-range_with_len (stored_of c.self.inside.cluster.policy.k (put_of b)) 0 (c.self.inside.cluster.policy.k + c.self.inside.cluster.policy.m)
     ∙ sym (column_length c.self.inside.cluster c.part-part.result c.self.invariant.rules)
+
+pub keep-requires-clause-room : goal.keep-requires-clause-room
+keep-requires-clause-room c =
+    let rest = drop (length c.make_room.new.nodes) c.self.inside.nodes.items in
+    let same = c.deref_mut-2.ensures.value ∙ take_at c.make_room.new.nodes rest c.self.inside.nodes.len (c.make_room.auto.nodes ∙ c.deref_mut.ensures.len) in
+    subst (λ nodes. All (λ (node : Node). vec_len node.entries < vec_capacity node.entries) nodes) (sym same) c.in_ok-make_room.ensures.room
 
 -- the put at the end
 abbrev put_here : After-drop-entries-2 → Put
