@@ -1,4 +1,5 @@
 mod Digits
+mod DigitsRead
 pub mod HexTexts
 pub mod Names
 pub mod Policies

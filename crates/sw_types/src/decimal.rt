@@ -1,6 +1,6 @@
 //! Decimal digits.
 
-ghost use Rattle.std.specs.Prelude.{◌≡◌, length};
+ghost use Rattle.std.specs.Prelude.{◌≡◌, ◌<◌, ◌^◌, ℕ, Some, length};
 ghost use Rattle.sw_types.specs.Decimal.{last_digits};
 
 // Fills the text with the last digits of a number.
@@ -14,4 +14,12 @@ pub(crate) fn write_digits(text: &mut [u8], number: u64)
         text[place] = b'0' + (rest % 10) as u8;
         rest /= 10;
     }
+}
+
+/// The number of these digits, with zeros in front or none, where they are digits and it is below 2^64.
+pub(crate) fn number_of(digits: &[u8]) -> Option<u64>
+    ensures { (count number : ℕ) → 0 < count → number < 10 ^ count → number < 2 ^ 64 → digits.now ≡ last_digits count number → result ≡ Some number }
+{
+    let text = str::from_utf8(digits).ok()?;
+    text.parse().ok()
 }

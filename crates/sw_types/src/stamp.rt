@@ -1,9 +1,9 @@
 //! Timestamps.
 
-ghost use Rattle.std.specs.Prelude.{◌≡◌, ◌≤◌, ℕ, Some, SomeIff};
+ghost use Rattle.std.specs.Prelude.{◌≡◌, ◌≤◌, ℕ, IfSome, Some, SomeIff, length};
 ghost use Rattle.sw_types.specs.Stamp.{greatest_stamp, stamp_text};
 
-use crate::decimal::write_digits;
+use crate::decimal::{number_of, write_digits};
 use std::fmt;
 use std::marker::Model;
 
@@ -57,6 +57,33 @@ impl Stamp {
         write_digits(&mut text[11..], self.units % 100_000);
         text
     }
+
+    /// The timestamp whose text this is, if it is one: exactly what `print` gives is read, and gives the timestamp back.
+    pub fn read(text: &[u8]) -> Option<Stamp>
+        ensures found { IfSome result (λ stamp. text.now ≡ stamp_text stamp) }
+        ensures reads { (stamp : ℕ) → stamp ≤ greatest_stamp → text.now ≡ stamp_text stamp → result ≡ Some stamp }
+    {
+        if text.len() != 16 {
+            return None;
+        }
+        let stamp = Stamp::make(units_of(text)?)?;
+        if stamp.print().as_slice() == text {
+            Some(stamp)
+        } else {
+            None
+        }
+    }
+}
+
+// The number of units that a text of sixteen bytes tells, ten digits of seconds before a byte and five behind it, where
+// there is one.
+fn units_of(text: &[u8]) -> Option<u64>
+    requires { length text.now ≡ 16 }
+    ensures { (stamp : ℕ) → stamp ≤ greatest_stamp → text.now ≡ stamp_text stamp → result ≡ Some stamp }
+{
+    let seconds = number_of(&text[..10])?;
+    let fraction = number_of(&text[11..16])?;
+    seconds.checked_mul(100_000)?.checked_add(fraction)
 }
 
 impl fmt::Display for Stamp {

@@ -6,7 +6,7 @@ use super::*;
 use std::test::Fail;
 
 #[test]
-fn prints_stamps(rt: HostRuntime) -> Result<(), Fail> {
+fn prints_and_reads_stamps(rt: HostRuntime) -> Result<(), Fail> {
     let cases = [
         (0, "0000000000.00000"),
         (100_000_000_000_000, "1000000000.00000"),
@@ -22,8 +22,23 @@ fn prints_stamps(rt: HostRuntime) -> Result<(), Fail> {
             want,
             "at {units}"
         );
+        assert_eq!(rt; Stamp::read(want.as_bytes()), Some(stamp), "at {want}");
     }
     assert_eq!(rt; Stamp::make(1_000_000_000_000_000), None);
+    let others: [&[u8]; 9] = [
+        b"",
+        b"1000000000",
+        b"1000000000.0000",
+        b"1000000000.000000",
+        b"1000000000,00000",
+        b"+000000000.00000",
+        b"1000000000.+0000",
+        b"100000000 .00000",
+        b"100000000\xff.00000",
+    ];
+    for text in others {
+        assert_eq!(rt; Stamp::read(text), None, "at {text:?}");
+    }
     Ok(())
 }
 

@@ -1,0 +1,30 @@
+use Rattle.std.proofs.Common.{◌≡◌, ℕ, List, Result, Ok, Err, Some, None, subst, sym, ap, ◌∙◌}
+use denote.Bor.{Bor}
+use Rattle.std.specs.Result.{MatchResult, result_ok}
+use Rattle.std.specs.Str.{IsUtf8}
+use Rattle.std.specs.Str.Parse.{ParsesUnsigned}
+use Rattle.std.proofs.lemmas.Fmt.{IsAscii-from_digits}
+use Rattle.std.proofs.lemmas.Str.{IsUtf8-from_ascii}
+use Rattle.sw_types.proofs.DigitsRead.{AllDigits-last_digits, parsed}
+use Rattle.sw_types.specs.Decimal.{last_digits}
+use Rattle.sw_types.proofs.decimal.number_of.Goals as goal
+
+-- what is no text is not UTF-8
+no_text : {T E U : Type 0} (P : T → Type 0) (Q : E → Type 0) (result : Result T E) → result_ok result ≡ None → MatchResult result P (λ error. ¬ U × Q error) → ¬ U
+no_text P Q (Ok value) none cases = absurd (cc)
+no_text P Q (Err error) none cases = cases.0
+
+-- a text has its bytes
+text_is : {E : Type 0} (U : Type 0) (N : E → Type 0) (result : Result (Bor (List ℕ)) E) (text : Bor (List ℕ)) (bytes : List ℕ) → result_ok result ≡ Some text → MatchResult result (λ s. (s.now ≡ bytes) × U) N → text.now ≡ bytes
+text_is U N (Ok value) text bytes some cases = let same : value ≡ text = cc in ap (λ (s : Bor (List ℕ)). s.now) (sym same) ∙ cases.0
+text_is U N (Err error) text bytes some cases = absurd (cc)
+
+pub returns-in_err-text : goal.returns-in_err-text
+returns-in_err-text c = λ count number some small fits digits.
+    let utf8 = subst IsUtf8 (sym digits) (IsUtf8-from_ascii (last_digits count number) (IsAscii-from_digits (last_digits count number) (AllDigits-last_digits count number))) in
+    absurd (no_text _ _ c.from_utf8.result (sym c.ok.ensures.value ∙ c.in_err-text.was) c.from_utf8.ensures.cases utf8)
+
+pub returns : goal.returns
+returns c = λ count number some small fits digits.
+    let text = text_is _ _ c.from_utf8.result c.in_ok-text.text c.args.digits.now (sym c.ok.ensures.value ∙ c.in_ok-text.was) c.from_utf8.ensures.cases in
+    c.ok-2.ensures.value ∙ ap result_ok (parsed count number c.parse.result some small fits (subst (λ bytes. ParsesUnsigned 64 10 bytes c.parse.result) (text ∙ digits) c.parse.ensures.value.0))
