@@ -1,5 +1,5 @@
 -- Hashes, and the digits that they are printed as.
-use Rattle.std.proofs.Common.{◌≡◌, ℕ, ◌-◌, ◌*◌, ◌<◌, nat_lt, true, slice_index, List, [], ◌∷◌, ◌++◌, length, take, drop, Result, Ok, Err, codes, refl, sym, ap, ◌∙◌, arith, append_assoc, length-append}
+use Rattle.std.proofs.Common.{◌≡◌, ℕ, ◌-◌, ◌*◌, ◌<◌, nat_lt, true, slice_index, List, [], ◌∷◌, ◌++◌, length, take, drop, Option, Some, Result, Ok, Err, codes, refl, sym, ap, ◌∙◌, arith, append_assoc, length-append}
 use Rattle.std.specs.Prelude.{MatchResult, ◌↔◌}
 use Rattle.std.specs.Fmt.{decimal}
 use Rattle.std.proofs.lemmas.List.{append_cancel_left, append_cancel_right, drop_at, length-drop, take_all}
@@ -34,15 +34,21 @@ hash_from_end text front hash digits out result sixteen bytes ends last read =
     rw decoded at read
 
 -- a folder ends with the digits of its hash
-pub folder_end : (spot : Spot) → (front : List ℕ) × (folder_of spot ≡ front ++ encode_lower spot.hash)
+folder_end : (spot : Spot) → (front : List ℕ) × (folder_of spot ≡ front ++ encode_lower spot.hash)
 folder_end spot =
     let front = codes "objects/" ++ decimal spot.part ++ 47 ∷ suffix_of spot.hash in
     (front ++ 47 ∷ [], sym (append_assoc front (47 ∷ []) (encode_lower spot.hash)))
 
--- a folder tells the place of its hash
-pub folder_of-spot_of : (power : ℕ) (spot : Spot) (hash : List ℕ) → IsSpot power spot → hash ≡ spot.hash → folder_of spot ≡ folder_of (spot_of hash power)
-folder_of-spot_of power spot hash is_spot same =
-    ap (λ part. folder_of (record { part = part; hash = spot.hash })) is_spot.part ∙ ap (λ hash. folder_of (spot_of hash power)) (sym same)
+-- what reads the hash at the end of a text reads that of a folder
+pub folder_hash : (power : ℕ) (spot : Spot) (text : List ℕ) (read : Option (List ℕ)) → IsSpot power spot → text ≡ folder_of spot → ((front hash : List ℕ) → length hash ≡ 16 → IsBytes hash → text ≡ front ++ encode_lower hash → read ≡ Some hash) → read ≡ Some spot.hash
+folder_hash power spot text read is_spot printed reads =
+    let end = folder_end spot in
+    reads end.0 spot.hash is_spot.hash is_spot.bytes (printed ∙ end.1)
+
+-- a place is that of its hash
+pub spot_of-hash : (power : ℕ) (spot : Spot) (hash : List ℕ) → IsSpot power spot → hash ≡ spot.hash → spot_of hash power ≡ spot
+spot_of-hash power spot hash is_spot same =
+    ap (λ hash. spot_of hash power) same ∙ ap (λ part. record { part = part; hash = spot.hash }) (sym is_spot.part)
 
 -- the digits are bytes of ASCII
 IsAscii-lower_digits : IsAscii lower_digits

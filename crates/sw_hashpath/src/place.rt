@@ -1,6 +1,6 @@
 //! Places of names, and their folders.
 
-ghost use Rattle.std.specs.Prelude.{◌≡◌, ◌≢◌, ◌≤◌, ◌<◌, ◌^◌, ◌∷◌, ◌++◌, ◌↔◌, ℕ, List, IfNone, IfOk, IfSome, IsTrue, MatchOption, length, string_bytes};
+ghost use Rattle.std.specs.Prelude.{◌≡◌, ◌≢◌, ◌≤◌, ◌<◌, ◌^◌, ◌∷◌, ◌++◌, ◌↔◌, ℕ, List, IfOk, IfSome, IsTrue, MatchOption, length, string_bytes};
 ghost use Rattle.std.specs.Fmt.{decimal};
 ghost use Rattle.hex.specs.Hex.{encode_lower};
 ghost use Rattle.sw_words.specs.Bytes.{IsBytes};
@@ -107,11 +107,11 @@ pub fn place_name(
 }
 
 /// The place whose folder this is, if it is one: the text is exactly what `folder` prints, and the partition is that of
-/// the hash.
+/// the hash. What `folder` prints is read back.
 pub fn read_folder(text: &str, power: u32) -> Option<Place>
     requires { power ≤ 16 }
     ensures found { IfSome result (λ place. (text.now ≡ folder_of place) × IsSpot power place) }
-    ensures none { IfNone result ((spot : Spot) → IsSpot power spot → text.now ≡ folder_of spot → ⊥) }
+    ensures reads { (spot : Spot) → IsSpot power spot → text.now ≡ folder_of spot → result ≡ Some spot }
 {
     let text = text.as_bytes();
     let place = place_of(last_hash(text)?, power);
