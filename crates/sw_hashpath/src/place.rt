@@ -1,7 +1,6 @@
 //! Places of names, and their folders.
 
 ghost use Rattle.std.specs.Prelude.{◌≡◌, ◌≢◌, ◌≤◌, ◌<◌, ◌^◌, ◌∷◌, ◌++◌, ◌↔◌, ℕ, List, IfOk, IfSome, IsTrue, MatchOption, length, string_bytes};
-ghost use Rattle.std.specs.Fmt.{decimal};
 ghost use Rattle.hex.specs.Hex.{encode_lower};
 ghost use Rattle.sw_words.specs.Bytes.{IsBytes};
 ghost use Rattle.sw_hashpath.specs.Place.{IsSpot, Spot, folder_of, hash_of, spot_of};
@@ -9,7 +8,7 @@ ghost use Rattle.sw_hashpath.specs.Place.{IsSpot, Spot, folder_of, hash_of, spot
 use md5::{Digest, Md5};
 use std::alloc::Global;
 use std::marker::Model;
-use sw_types::{Name, NoMemory};
+use sw_types::{Name, NoMemory, is_decimal};
 
 // Where the suffix begins in the digits of a hash.
 const SUFFIX_START: usize = 29;
@@ -71,7 +70,7 @@ impl Place {
         let Some(part) = front_of(rest, &digits[SUFFIX_START..]) else {
             return false;
         };
-        is_decimal(part, self.part)
+        is_decimal(part, u64::from(self.part))
     }
 }
 
@@ -146,17 +145,4 @@ fn front_of<'a>(text: &'a [u8], last: &[u8]) -> Option<&'a [u8]>
     ensures { MatchOption result ((front : List ℕ) → text.now ≢ front ++ 47 ∷ last.now) (λ front. text.now ≡ front.now ++ 47 ∷ last.now) }
 {
     text.strip_suffix(last)?.strip_suffix(b"/")
-}
-
-// Whether a text is the decimal of a number.
-fn is_decimal(text: &[u8], number: u32) -> bool
-    ensures { IsTrue result ↔ text.now ≡ decimal number }
-{
-    if number < 10 {
-        return text == [b'0' + number as u8].as_slice();
-    }
-    let Some((last, front)) = text.split_last() else {
-        return false;
-    };
-    *last == b'0' + (number % 10) as u8 && is_decimal(front, number / 10)
 }

@@ -1,6 +1,6 @@
 -- Digits that are read.
 use Rattle.std.proofs.Common.{◌≡◌, ℕ, zero, suc, ◌+◌, ◌*◌, ◌/◌, ◌%◌, ◌^◌, ◌<◌, ◌==◌, cond, false, List, [], ◌∷◌, ◌++◌, length, take, drop, Result, Ok, Err, refl, sym, ◌∙◌, ap, arith, append_assoc, length-append}
-use Rattle.std.specs.Str.Parse.{AllDigits, ParsesUnsigned, digits_value, without_leading_plus}
+use Rattle.std.specs.Str.Parse.{AllDigits, IsNumeral, ParsesUnsigned, digits_value, without_leading_plus}
 use Rattle.std.specs.Char.{digit_value}
 use Rattle.std.proofs.lemmas.Bool.Decides.{nat_tests}
 use Rattle.std.proofs.lemmas.List.{drop_at, take_all, take_at}
@@ -21,13 +21,13 @@ AllDigits-push : (digits : List ℕ) (c : ℕ) → AllDigits 10 digits → digit
 AllDigits-push [] c all small = (small, tt)
 AllDigits-push (first ∷ rest) c all small = (all.0, AllDigits-push rest c all.1 small)
 
-pub AllDigits-last_digits : (count n : ℕ) → AllDigits 10 (last_digits count n)
+AllDigits-last_digits : (count n : ℕ) → AllDigits 10 (last_digits count n)
 unfolding last_digits
 AllDigits-last_digits zero n = tt
 AllDigits-last_digits (suc count) n = AllDigits-push (last_digits count (n / 10)) (48 + n % 10) (AllDigits-last_digits count (n / 10)) (omega (arith, last_digit n))
 
 -- the digits write the number
-digits_value-last_digits : (count n : ℕ) → n < 10 ^ count → digits_value 10 (last_digits count n) ≡ n
+pub digits_value-last_digits : (count n : ℕ) → n < 10 ^ count → digits_value 10 (last_digits count n) ≡ n
 unfolding last_digits
 digits_value-last_digits zero n small = omega arith
 digits_value-last_digits (suc count) n small =
@@ -42,14 +42,13 @@ no_plus (c ∷ rest) all =
     let other : (c == 43) ≡ false = grind (arith, nat_tests, range) in
     ap (λ plus. drop (cond plus 1 0) (c ∷ rest)) other
 
-pub parsed : {E : Type 0} (count n : ℕ) (result : Result ℕ E) → 0 < count → n < 10 ^ count → n < 2 ^ 64 → ParsesUnsigned 64 10 (last_digits count n) result → result ≡ Ok n
-parsed count n (Ok m) some small fits parses =
-    let same = no_plus (last_digits count n) (AllDigits-last_digits count n) in
-    ap Ok (parses.1 ∙ ap (digits_value 10) same ∙ digits_value-last_digits count n small)
-parsed count n (Err error) some small fits parses =
-    let same = no_plus (last_digits count n) (AllDigits-last_digits count n) in
-    let value = digits_value-last_digits count n small in
-    absurd (parses (rw same ((omega (arith, length-last_digits count n, some), AllDigits-last_digits count n), omega (arith, value, fits))))
+-- what std reads of a numeral
+pub parsed : {E : Type 0} (digits : List ℕ) (result : Result ℕ E) → IsNumeral 10 digits → digits_value 10 digits < 2 ^ 64 → ParsesUnsigned 64 10 digits result → result ≡ Ok (digits_value 10 digits)
+parsed digits (Ok m) numeral fits parses = ap Ok (parses.1 ∙ ap (digits_value 10) (no_plus digits numeral.1))
+parsed digits (Err error) numeral fits parses = absurd (parses (rw (no_plus digits numeral.1) (numeral, fits)))
+
+pub last_digits-numeral : (count n : ℕ) → 0 < count → IsNumeral 10 (last_digits count n)
+last_digits-numeral count n some = (omega (arith, length-last_digits count n, some), AllDigits-last_digits count n)
 
 -- the digits of the seconds and of the fraction in a stamp's text
 pub seconds_digits : (text : List ℕ) (stamp : ℕ) → text ≡ stamp_text stamp → take 10 text ≡ last_digits 10 (stamp / 100000)

@@ -1,3 +1,4 @@
+mod Decimals
 mod Digits
 mod DigitsRead
 pub mod HexTexts

@@ -11,6 +11,7 @@ mod policy;
 mod stamp;
 
 pub use crate::bytes::Bytes;
+pub use crate::decimal::{is_decimal, read_decimal};
 pub use crate::hexadecimal::{HexFault, hex_law, print_hex, read_hex};
 pub use crate::memory::NoMemory;
 pub use crate::name::{Name, NameFault, Part, name_law};

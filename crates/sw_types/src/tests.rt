@@ -43,6 +43,28 @@ fn prints_and_reads_stamps(rt: HostRuntime) -> Result<(), Fail> {
 }
 
 #[test]
+fn reads_decimals(rt: HostRuntime) {
+    let cases: [(&[u8], Option<u64>); 13] = [
+        (b"0", Some(0)),
+        (b"10", Some(10)),
+        (b"18446744073709551615", Some(u64::MAX)),
+        (b"18446744073709551616", None),
+        (b"", None),
+        (b"00", None),
+        (b"01", None),
+        (b"+1", None),
+        (b"-1", None),
+        (b" 1", None),
+        (b"1 ", None),
+        (b"1a", None),
+        (b"\xff", None),
+    ];
+    for (text, want) in cases {
+        assert_eq!(rt; read_decimal(text), want, "at {text:?}");
+    }
+}
+
+#[test]
 fn reads_hex_of_either_case(rt: HostRuntime) -> Result<(), Fail> {
     let alloc = rt.alloc();
     for (text, want) in [("-", ""), ("616263", "abc"), ("6A6b", "jk")] {

@@ -1,12 +1,10 @@
 use Rattle.std.proofs.Common.{◌≡◌, ℕ, List, Result, Ok, Err, Some, None, subst, sym, ap, ◌∙◌}
 use denote.Bor.{Bor}
 use Rattle.std.specs.Result.{MatchResult, result_ok}
-use Rattle.std.specs.Str.{IsUtf8}
 use Rattle.std.specs.Str.Parse.{ParsesUnsigned}
 use Rattle.std.proofs.lemmas.Fmt.{IsAscii-from_digits}
 use Rattle.std.proofs.lemmas.Str.{IsUtf8-from_ascii}
-use Rattle.sw_types.proofs.DigitsRead.{AllDigits-last_digits, parsed}
-use Rattle.sw_types.specs.Decimal.{last_digits}
+use Rattle.sw_types.proofs.DigitsRead.{parsed}
 use Rattle.sw_types.proofs.decimal.number_of.Goals as goal
 
 -- what is no text is not UTF-8
@@ -20,11 +18,10 @@ text_is U N (Ok value) text bytes some cases = let same : value ≡ text = cc in
 text_is U N (Err error) text bytes some cases = absurd (cc)
 
 pub returns-in_err-text : goal.returns-in_err-text
-returns-in_err-text c = λ count number some small fits digits.
-    let utf8 = subst IsUtf8 (sym digits) (IsUtf8-from_ascii (last_digits count number) (IsAscii-from_digits (last_digits count number) (AllDigits-last_digits count number))) in
-    absurd (no_text _ _ c.from_utf8.result (sym c.ok.ensures.value ∙ c.in_err-text.was) c.from_utf8.ensures.cases utf8)
+returns-in_err-text c = λ numeral fits.
+    absurd (no_text _ _ c.from_utf8.result (sym c.ok.ensures.value ∙ c.in_err-text.was) c.from_utf8.ensures.cases (IsUtf8-from_ascii c.args.digits.now (IsAscii-from_digits c.args.digits.now numeral.1)))
 
 pub returns : goal.returns
-returns c = λ count number some small fits digits.
+returns c = λ numeral fits.
     let text = text_is _ _ c.from_utf8.result c.in_ok-text.text c.args.digits.now (sym c.ok.ensures.value ∙ c.in_ok-text.was) c.from_utf8.ensures.cases in
-    c.ok-2.ensures.value ∙ ap result_ok (parsed count number c.parse.result some small fits (subst (λ bytes. ParsesUnsigned 64 10 bytes c.parse.result) (text ∙ digits) c.parse.ensures.value.0))
+    c.ok-2.ensures.value ∙ ap result_ok (parsed c.args.digits.now c.parse.result numeral fits (subst (λ bytes. ParsesUnsigned 64 10 bytes c.parse.result) text c.parse.ensures.value.0))

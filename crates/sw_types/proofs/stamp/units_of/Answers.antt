@@ -1,16 +1,24 @@
-use Rattle.std.proofs.Common.{◌≡◌, ℕ, ◌+◌, ◌<◌, ◌≤◌, ◌/◌, ◌%◌, ◌^◌, Option, Some, None, sym, ◌∙◌, ap, arith}
+use Rattle.std.proofs.Common.{◌≡◌, ℕ, ◌+◌, ◌<◌, ◌≤◌, ◌/◌, ◌%◌, ◌^◌, List, Option, Some, None, subst, sym, ◌∙◌, ap, arith}
 use Rattle.std.specs.Option.{SomeIff}
+use Rattle.std.specs.Str.Parse.{IsNumeral, digits_value}
+use Rattle.sw_types.specs.Decimal.{last_digits}
 use Rattle.sw_types.specs.Stamp.{greatest_stamp, stamp_text}
-use Rattle.sw_types.proofs.DigitsRead.{fraction_digits, seconds_digits}
+use Rattle.sw_types.proofs.DigitsRead.{digits_value-last_digits, fraction_digits, last_digits-numeral, seconds_digits}
 use Rattle.sw_types.proofs.stamp.units_of.Goals as goal
 use Rattle.sw_types.proofs.stamp.units_of.Goals.{After-number_of, After-number_of-2}
 
+-- digits are read as the number that they write
+read_digits : (digits : List ℕ) (result : Option ℕ) (count n : ℕ) → 0 < count → n < 10 ^ count → n < 2 ^ 64 → (IsNumeral 10 digits → digits_value 10 digits < 2 ^ 64 → result ≡ Some (digits_value 10 digits)) → digits ≡ last_digits count n → result ≡ Some n
+read_digits digits result count n some small fits reads are =
+    let value = ap (digits_value 10) are ∙ digits_value-last_digits count n small in
+    reads (subst (IsNumeral 10) (sym are) (last_digits-numeral count n some)) (omega (arith, value, fits)) ∙ ap (λ m. Some m) value
+
 -- the seconds of a stamp's text are read, and so is its fraction
 seconds : (c : After-number_of) (stamp : ℕ) → stamp ≤ greatest_stamp → c.args.text.now ≡ stamp_text stamp → c.number_of.result ≡ Some (stamp / 100000)
-seconds c stamp within printed = c.number_of.ensures 10 (stamp / 100000) (omega arith) (omega arith) (omega arith) (seconds_digits c.args.text.now stamp printed)
+seconds c stamp within printed = read_digits _ c.number_of.result 10 (stamp / 100000) (omega arith) (omega arith) (omega arith) c.number_of.ensures (seconds_digits c.args.text.now stamp printed)
 
 fraction : (c : After-number_of-2) (stamp : ℕ) → stamp ≤ greatest_stamp → c.args.text.now ≡ stamp_text stamp → c.number_of-2.result ≡ Some (stamp % 100000)
-fraction c stamp within printed = c.number_of-2.ensures 5 (stamp % 100000) (omega arith) (omega arith) (omega arith) (fraction_digits c.args.text.now stamp printed)
+fraction c stamp within printed = read_digits _ c.number_of-2.result 5 (stamp % 100000) (omega arith) (omega arith) (omega arith) c.number_of-2.ensures (fraction_digits c.args.text.now stamp printed)
 
 some_sum : (result : Option ℕ) (sum stamp : ℕ) → sum ≡ stamp → stamp < 2 ^ 64 → SomeIff result (sum < 2 ^ 64) sum → result ≡ Some stamp
 some_sum None sum stamp all fits is = absurd (is (omega (arith, all, fits)))

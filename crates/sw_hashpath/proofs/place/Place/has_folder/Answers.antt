@@ -26,4 +26,5 @@ returns c =
     let before = rw c.digits_of-digits.ensures at c.in-Some-front_of.ensures in
     let cut = rw suffix at c.in-Some-front_of-2.ensures in
     let parts = folder_by_parts c.args.text.now c.in-Some.rest.now c.in-Some-front_of.rest.now (decimal c.self.inside.part) c.in-Some-front_of-2.part.now (suffix_of c.self.inside.hash) (encode_lower c.self.inside.hash) after before cut in
-    rw (← c.self.view_is) (λ yes. parts.1 (c.is_decimal.ensures.0 yes), λ printed. c.is_decimal.ensures.1 (parts.0 printed))
+    let is = rw c.from.ensures at c.is_decimal.ensures in
+    rw (← c.self.view_is) (λ yes. parts.1 (is.0 yes), λ printed. is.1 (parts.0 printed))

@@ -1,4 +1,4 @@
-use Rattle.sw_hashpath.proofs.place.+is_decimal.Given as goal
+use Rattle.sw_types.proofs.decimal.+is_decimal.Given as goal
 
 abbrev pub decreases-is_decimal : goal.decreases-is_decimal
 decreases-is_decimal l = l.number

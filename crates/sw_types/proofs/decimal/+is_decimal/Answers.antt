@@ -2,8 +2,8 @@ use Rattle.std.proofs.Common.{arith, ap, sym, ◌∙◌, length, eqb-true}
 use Rattle.std.proofs.lemmas.Bool.Decides.{Decides-eqb}
 use Rattle.std.proofs.lemmas.Fmt.{decimal_digit, decimal_nonempty}
 use Rattle.std.proofs.lemmas.Slice.Eq.{slice_eq-Decides}
-use Rattle.sw_hashpath.proofs.Decimals.{decimal_pushed}
-use Rattle.sw_hashpath.proofs.place.+is_decimal.Goals as goal
+use Rattle.sw_types.proofs.Decimals.{decimal_pushed}
+use Rattle.sw_types.proofs.decimal.+is_decimal.Goals as goal
 
 pub returns-then-number-lt10 : goal.returns-then-number-lt10
 returns-then-number-lt10 t c =
