@@ -282,6 +282,30 @@ fn takes_up_to_64_devices(rt: HostRuntime) -> Result<(), Fail> {
     Ok(())
 }
 
+// A text with an unknown member of so many lists, each in the one before it.
+fn nested(alloc: Global, lists: usize) -> Result<String, AllocError> {
+    let mut text = String::from_str(alloc, r#"{"x":"#)?;
+    for _ in 0..lists {
+        text.push('[')?;
+    }
+    for _ in 0..lists {
+        text.push(']')?;
+    }
+    let back = r#","part_power":0,"k":1,"m":1,"devices":[{"id":9},{"id":5}],"rows":[[9],[5]]}"#;
+    text.push_str(back)?;
+    Ok(text)
+}
+
+#[test]
+fn reads_127_values_within_each_other(rt: HostRuntime) -> Result<(), Fail> {
+    let deep = nested(rt.alloc(), 126)?;
+    let cluster = Cluster::read(rt.alloc(), deep.as_bytes())?;
+    assert_eq!(rt; cluster.policy().k(), 1);
+    let deeper = nested(rt.alloc(), 127)?;
+    refuses(&rt, rt.alloc(), deeper.as_str(), NotJson);
+    Ok(())
+}
+
 #[test]
 fn numbers_the_faults(rt: HostRuntime) {
     let faults = [
