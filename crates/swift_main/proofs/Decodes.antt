@@ -4,7 +4,7 @@ use Rattle.std.specs.Prelude.{◌≢◌}
 use Rattle.std.proofs.Math.Nat.{lt-div-mul-add, mul_comm}
 use Rattle.std.specs.List.{All, AllByRecursion, range_with_len}
 use Rattle.std.specs.Option.{option_map}
-use Rattle.std.proofs.lemmas.List.{length-append, length-replicate, map-append, take_at}
+use Rattle.std.proofs.lemmas.List.{length-append, length-replicate, take_at}
 use Rattle.std.proofs.lemmas.List.Elements.{All-from_recursion}
 use Rattle.std.proofs.lemmas.List.FromFn.{length-map-range_with_len}
 use Rattle.std.proofs.lemmas.Result.{IfOk-weaker}
@@ -51,23 +51,12 @@ behind cluster nodes operations puts name first played is =
     (λ index below. ap (λ all. newest name (entries_at all (primary_at cluster name index))) played.stored ∙ newest_held cluster played.objects name index played.rules below)
     (bounds cluster.policy played.rules.policy).some_data is
 
-range_push : (start count : ℕ) → range_with_len start (count + 1) ≡ range_with_len start count ++ (start + count) ∷ []
-range_push start zero = ap (λ n. n ∷ []) (omega arith)
-range_push start (suc count) =
-    let one : suc count + 1 ≡ suc (count + 1) = omega arith in
-    ap (λ n. range_with_len start n) one
-    ∙ ap (λ rest. start ∷ rest) (range_push (start + 1) count ∙ ap (λ n. range_with_len (start + 1) count ++ n ∷ []) (omega arith))
-
 -- the share of each index below k is that fragment of the name's last put
 pub made_of : (cluster : Fields) (nodes : List Kept) (puts : List Put) (name : Parts) (put : Put) → KeepsRules cluster → nodes ≡ nodes_after cluster puts → latest name puts ≡ Some put
     → (index : ℕ) → index < cluster.policy.k + cluster.policy.m → newest name (entries_at nodes (primary_at cluster name index)) ≡ Some (stored_of cluster.policy.k put index)
 made_of cluster nodes puts name put rules after last index below =
     ap (λ all. newest name (entries_at all (primary_at cluster name index))) after ∙ newest_held cluster puts name index rules below
     ∙ ap (option_map (λ put. stored_of cluster.policy.k put index)) last
-
--- one share more
-pub shares_push : (share : ℕ → Share) (count : ℕ) → map share (range_with_len 0 (count + 1)) ≡ map share (range_with_len 0 count) ++ share count ∷ []
-shares_push share count = ap (map share) (range_push 0 count) ∙ map-append share (range_with_len 0 count) ((0 + count) ∷ []) ∙ ap (λ n. map share (range_with_len 0 count) ++ share n ∷ []) (omega arith)
 
 others_before : (share : ℕ → Share) (start count index : ℕ) → ((i : ℕ) → (share i).index ≡ i) → start + count ≤ index → AllByRecursion (λ other. other.index ≢ index) (map share (range_with_len start count))
 others_before share start zero index named past = tt

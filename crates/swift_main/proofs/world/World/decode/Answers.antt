@@ -2,14 +2,14 @@ use Rattle.std.proofs.Common.{◌≡◌, length, map, Option, Some, None, refl, 
 use denote.Bor.{Bor}
 use Rattle.std.specs.List.{range_with_len}
 use Rattle.std.specs.Option.{IsSome, option_copied}
-use Rattle.std.proofs.lemmas.List.FromFn.{length-map-range_with_len}
+use Rattle.std.proofs.lemmas.List.FromFn.{length-map-range_with_len, map-range_with_len_more}
 use Rattle.sw_types.proofs.Policies.{bounds}
 use Rattle.sw_cauchy.specs.Share.{Gathered}
 use Rattle.sw_cauchy.specs.Stripe.{fragment_width}
 use Rattle.swift_main.specs.declared.node.Stored.{Stored}
 use Rattle.swift_main.specs.Nodes.{IsPlayed, State, nodes_after, stored_of}
 use Rattle.swift_main.specs.Run.{puts_of}
-use Rattle.swift_main.proofs.Decodes.{Behind, all_others, behind, decoded_body, first_width, fragment_in, made_of, same_width, share_at, shares_push}
+use Rattle.swift_main.proofs.Decodes.{Behind, all_others, behind, decoded_body, first_width, fragment_in, made_of, same_width, share_at}
 use Rattle.swift_main.proofs.Holds.{IsBytes-some}
 use Rattle.swift_main.proofs.world.World.decode.Goals as goal
 use Rattle.swift_main.proofs.world.World.decode.Goals.{In_ok-gather, After-newest, After-as_slice}
@@ -58,7 +58,7 @@ each-preserved c =
     let share = share_at c.args.self.now.cluster c.args.self.now.nodes c.args.name.now in
     let held = sym c.newest.ensures ∙ ap option_copied c.unwrap-entry.ensures in
     let bytes : c.as_slice.result.now ≡ (share c.each.index).bytes = c.as_slice.ensures ∙ sym (ap fragment_in held) in
-    rw (c.add.ensures, c.each.invariant, shares_push share c.each.index, bytes) refl
+    rw (c.add.ensures, c.each.invariant, map-range_with_len_more share 0 c.each.index c.each.index (omega arith), bytes) refl
 
 pub finish-requires-clause-enough : goal.finish-requires-clause-enough
 finish-requires-clause-enough c =
