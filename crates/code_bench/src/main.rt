@@ -4,23 +4,16 @@
 
 mod measure;
 mod plain;
-mod segment;
 mod trial;
 
 use crate::measure::measure;
 use crate::trial::try_code;
 use anyhow::Result;
+use measuring::{Command, command_of};
 use std::env;
 use std::process::ExitCode;
 use std::rt::Env;
 use sw_cauchy::Code;
-
-// What the words of the command line ask for.
-#[derive(Clone, Copy, Debug)]
-enum Command {
-    Try,
-    Measure { seconds: u64 },
-}
 
 fn main(rt: HostRuntime) -> Result<ExitCode> {
     let Some(command) = read_command(&rt)? else {
@@ -43,16 +36,4 @@ fn read_command(rt: &(impl Env + AllocGlobal)) -> Result<Option<Command>> {
     };
     let words: Vec<String> = words.collect(rt.alloc())?;
     Ok(command_of(&words))
-}
-
-// The command of the words, the program's name first.
-fn command_of(words: &[String]) -> Option<Command> {
-    if words.len() <= 1 {
-        return Some(Command::Try);
-    }
-    if words.len() == 3 && words[1].as_str() == "measure" {
-        let seconds = words[2].as_str().parse::<u64>().ok()?;
-        return Some(Command::Measure { seconds });
-    }
-    None
 }

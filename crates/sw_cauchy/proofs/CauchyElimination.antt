@@ -32,12 +32,12 @@ module _ (p₁ j₁ : ℕ) (ps js : List ℕ) (v : ℕ → ℕ) (h : HasZeroSums
   over_lt p x k = product_lt (inverse (bit_xor p x)) (v x) (inverse_lt (bit_xor p x)) (h.value_lt x (inr k))
 
   -- so is the sum of a row's and a column's number
-  place_lt : (p x : ℕ) → Has (p₁ ∷ ps) p → Has (j₁ ∷ js) x → bit_xor p x < 256
-  place_lt p x kp kx = xor_byte p x (h.row_lt p kp) (h.column_lt x kx)
+  denominator_lt : (p x : ℕ) → Has (p₁ ∷ ps) p → Has (j₁ ∷ js) x → bit_xor p x < 256
+  denominator_lt p x kp kx = xor_byte p x (h.row_lt p kp) (h.column_lt x kx)
 
   -- which is not 0
-  place_pos : (p x : ℕ) → Has (p₁ ∷ ps) p → Has (j₁ ∷ js) x → 0 < bit_xor p x
-  place_pos p x kp kx = pos-xor p x (h.apart p x kp kx)
+  denominator_pos : (p x : ℕ) → Has (p₁ ∷ ps) p → Has (j₁ ∷ js) x → 0 < bit_xor p x
+  denominator_pos p x kp kx = pos-xor p x (h.apart p x kp kx)
 
   -- the sum of two columns' numbers is an element
   ahead_lt : (x : ℕ) → Has js x → bit_xor j₁ x < 256
@@ -52,7 +52,7 @@ module _ (p₁ j₁ : ℕ) (ps js : List ℕ) (v : ℕ → ℕ) (h : HasZeroSums
   first_value : (p : ℕ) → Has (p₁ ∷ ps) p → product (bit_xor p j₁) (cauchy_sum js v p) ≡ v j₁
   first_value p k =
       ap (product (bit_xor p j₁)) (sym (same_from_xor (product (inverse (bit_xor p j₁)) (v j₁)) (cauchy_sum js v p) (h.zero_sum p k)))
-      ∙ product-cancel (bit_xor p j₁) (v j₁) (place_pos p j₁ k (inl refl)) (place_lt p j₁ k (inl refl)) (h.value_lt j₁ (inl refl))
+      ∙ product-cancel (bit_xor p j₁) (v j₁) (denominator_pos p j₁ k (inl refl)) (denominator_lt p j₁ k (inl refl)) (h.value_lt j₁ (inl refl))
 
   -- one product of the sum of row p after the elimination
   next_term : (p x : ℕ) → Has ps p → Has js x
@@ -61,8 +61,8 @@ module _ (p₁ j₁ : ℕ) (ps js : List ℕ) (v : ℕ → ℕ) (h : HasZeroSums
   unfolding next_values
   next_term p x kp kx =
       ap (λ n. product n (product (inverse (bit_xor p x)) (next_values p₁ j₁ v x))) (sym (xor_common p p₁ x))
-      ∙ eliminated (bit_xor p x) (bit_xor p₁ x) (bit_xor j₁ x) (v x) (place_pos p x (inr kp) (inr kx)) (place_pos p₁ x (inl refl) (inr kx))
-      (place_lt p x (inr kp) (inr kx)) (place_lt p₁ x (inl refl) (inr kx)) (ahead_lt x kx) (h.value_lt x (inr kx))
+      ∙ eliminated (bit_xor p x) (bit_xor p₁ x) (bit_xor j₁ x) (v x) (denominator_pos p x (inr kp) (inr kx)) (denominator_pos p₁ x (inl refl) (inr kx))
+      (denominator_lt p x (inr kp) (inr kx)) (denominator_lt p₁ x (inl refl) (inr kx)) (ahead_lt x kx) (h.value_lt x (inr kx))
       ∙ ap₂ (λ n m. bit_xor (product n (product (inverse (bit_xor p x)) (v x))) (product m (product (inverse (bit_xor p₁ x)) (v x)))) (xor_common p j₁ x) (xor_common p₁ j₁ x)
 
   -- the sum of row p after the elimination is zero
@@ -96,7 +96,7 @@ module _ (p₁ j₁ : ℕ) (ps js : List ℕ) (v : ℕ → ℕ) (h : HasZeroSums
   unfolding next_values
   rest_zero none x k =
       let other : j₁ ≢ x = (λ e. h.columns_differ.0 (subst (Has js) (sym e) k)) in
-      zero_from_inverse (bit_xor p₁ x) (v x) (place_pos p₁ x (inl refl) (inr k)) (place_lt p₁ x (inl refl) (inr k)) (h.value_lt x (inr k))
+      zero_from_inverse (bit_xor p₁ x) (v x) (denominator_pos p₁ x (inl refl) (inr k)) (denominator_lt p₁ x (inl refl) (inr k)) (h.value_lt x (inr k))
       (zero_from_product (bit_xor j₁ x) (product (inverse (bit_xor p₁ x)) (v x)) (pos-xor j₁ x other) (ahead_lt x k) (over_lt p₁ x k) (none x k))
 
   -- then the first value is zero too

@@ -135,7 +135,7 @@ sum_only xs i f differ has none =
     (sum_zero out.0 f (λ x k. none x (left_out_from out.1 x k) (λ e. (differ_left_out out.1 differ).0 (subst (Has out.0) e k))))
     ∙ xor_zero_r (f i)
 
--- the sum of a row's products with a column is the sum over all places
+-- the sum of a row's products with a column is the sum over all positions
 pub row_sum-over : (k : ℕ) (row column : ℕ → ℕ) → row_sum k row column ≡ sum_over (below k) (λ x. product (row x) (column x))
 unfolding row_sum
 row_sum-over zero row column = refl

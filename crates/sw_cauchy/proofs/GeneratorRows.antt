@@ -1,7 +1,10 @@
 -- Entries of the generator matrix, and its rows of some indices.
-use Rattle.std.proofs.Common.{◌≡◌, ◌≢◌, ℕ, ◌*◌, ◌<◌, ◌≤◌, ◌==◌, nat_lt, List, length, get_or, refl, sym, ◌∙◌, inl, inr, arith, bit_xor}
-use Rattle.std.proofs.lemmas.Bool.{cases_Bool, lt-ltb, le-ltb, eq-eqb, ne_eqb}
+use Rattle.std.proofs.Common.{◌≡◌, ◌≢◌, ℕ, ◌*◌, ◌<◌, ◌≤◌, ◌==◌, nat_lt, List, length, get_or, refl, sym, subst, ◌∙◌, inl, inr, arith, bit_xor}
+use Rattle.std.proofs.lemmas.Bool.{cases_Bool, cases_lt, lt-ltb, le-ltb, eq-eqb, ne_eqb}
+use Rattle.std.proofs.lemmas.List.{get_or_past}
 use Rattle.std.proofs.lemmas.List.FromFn.{length-map-range_with_len, get_or-map-range_with_len}
+use Rattle.sw_words.specs.Bytes.{IsBytes}
+use Rattle.sw_words.proofs.ByteLists.{IsBytes-flat_map}
 use Rattle.sw_gf256.specs.Field.{inverse}
 use Rattle.sw_gf256.proofs.FieldLaws.{inverse_lt}
 use Rattle.sw_cauchy.specs.Linear.{matrix_entry}
@@ -51,3 +54,11 @@ length-generator_rows k indices = length-parts (generator_row k) k indices (leng
 pub matrix_entry-generator_rows : (k : ℕ) (indices : List ℕ) (t j : ℕ) → t < length indices → j < k → matrix_entry k (generator_rows k indices) t j ≡ entry k (get_or indices t 0) j
 matrix_entry-generator_rows k indices t j h l =
     get_or-part (generator_row k) k indices t j (length-generator_row k) h l ∙ get_or-generator_row k (get_or indices t 0) j l
+
+-- each is an element
+pub IsBytes-generator_rows : (k : ℕ) (indices : List ℕ) → IsBytes (generator_rows k indices)
+IsBytes-generator_rows k indices =
+    IsBytes-flat_map (generator_row k) indices (λ i j. elim (cases_lt j k) [
+      | inl low ↦ subst (λ n. n < 256) (sym (get_or-generator_row k i j low)) (entry-lt k i j)
+      | inr high ↦ subst (λ n. n < 256) (sym (get_or_past (generator_row k i) j 0 (omega (arith, length-generator_row k i)))) (omega arith)
+    ])

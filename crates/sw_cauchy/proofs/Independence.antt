@@ -116,16 +116,16 @@ module _ (k : ℕ) (v : ℕ → ℕ) (small : k ≤ 256) (bytes : (x : ℕ) → 
 -- ---- the matrix of these rows
 
 -- where an element stands
-place_of : (xs : List ℕ) (x : ℕ) → Has xs x → (t : ℕ) × (t < length xs) × (get_or xs t 0 ≡ x)
-place_of [] x h = absurd h
-place_of (y ∷ ys) x (inl e) = (0, omega arith, e)
-place_of (y ∷ ys) x (inr h) = let rest = place_of ys x h in (suc rest.0, omega (arith, rest.1), rest.2)
+position_of : (xs : List ℕ) (x : ℕ) → Has xs x → (t : ℕ) × (t < length xs) × (get_or xs t 0 ≡ x)
+position_of [] x h = absurd h
+position_of (y ∷ ys) x (inl e) = (0, omega arith, e)
+position_of (y ∷ ys) x (inr h) = let rest = position_of ys x h in (suc rest.0, omega (arith, rest.1), rest.2)
 
 -- indices of which no two are equal
 differ_from_pairs : (xs : List ℕ) → AllPairs (λ i j. i ≢ j) xs → Differ xs
 differ_from_pairs [] h = tt
 differ_from_pairs (x ∷ xs) h = (
-  (λ k. let place = place_of xs x k in h 0 (suc place.0) 0 (omega arith) (omega (arith, place.1)) (sym place.2)),
+  (λ k. let position = position_of xs x k in h 0 (suc position.0) 0 (omega arith) (omega (arith, position.1)) (sym position.2)),
   differ_from_pairs xs (λ i j d low high. h (suc i) (suc j) d (omega arith) (omega arith)),
 )
 
@@ -137,16 +137,16 @@ nothing_met k indices v long bytes differ none = record {
   parity_differ = tt;
   columns_differ = differ_below k;
   separate = λ i ki kp. kp;
-  row_lt = λ i ki. let place = place_of indices i ki in subst (λ n. n < 256) place.2 (bytes place.0 0 place.1);
+  row_lt = λ i ki. let position = position_of indices i ki in subst (λ n. n < 256) position.2 (bytes position.0 0 position.1);
   parity_lt = λ p kp. absurd kp;
   parity = λ p kp. absurd kp;
   column_lt = λ x kx. below-lt k x kx;
   unit_column = λ i ki low. Has-below k i low;
   zero_sum = λ i ki.
-      let place = place_of indices i ki in
-      let within : place.0 < k = omega (arith, place.1) in
-      sum_same (below k) _ _ (λ x kx. ap (λ n. product n (v x)) (ap (λ r. entry k r x) (sym place.2) ∙ sym (matrix_entry-generator_rows k indices place.0 x place.1 (below-lt k x kx))))
-      ∙ sym (row_sum-over k (matrix_entry k (generator_rows k indices) place.0) v) ∙ none place.0 within;
+      let position = position_of indices i ki in
+      let within : position.0 < k = omega (arith, position.1) in
+      sum_same (below k) _ _ (λ x kx. ap (λ n. product n (v x)) (ap (λ r. entry k r x) (sym position.2) ∙ sym (matrix_entry-generator_rows k indices position.0 x position.1 (below-lt k x kx))))
+      ∙ sym (row_sum-over k (matrix_entry k (generator_rows k indices) position.0) v) ∙ none position.0 within;
   parity_zero_sum = λ p kp. absurd kp;
 }
 

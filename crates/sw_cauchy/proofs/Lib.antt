@@ -1,10 +1,13 @@
 mod CauchyElimination
 mod ColumnSums
 mod Decoding
+mod EliminationSteps
 mod FieldAlgebra
+pub mod Fragments
 mod GeneratorRows
 mod Independence
 mod Inverses
+mod Invertible
 mod MatrixRows
 mod Multiples
 mod Parts

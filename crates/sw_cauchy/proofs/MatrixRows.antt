@@ -13,14 +13,14 @@ use Rattle.sw_cauchy.proofs.Multiples.{length-plus_multiple, get_or-plus_multipl
 
 -- an entry of the row
 entry_in : (k row j : ℕ) (before items after : List ℕ) → length before ≡ row * k → j < length items → matrix_entry k (before ++ (items ++ after)) row j ≡ get_or items j 0
-entry_in k row j before items after place within =
-    ap (λ n. get_or (before ++ (items ++ after)) (n + j) 0) (sym place)
+entry_in k row j before items after position within =
+    ap (λ n. get_or (before ++ (items ++ after)) (n + j) 0) (sym position)
     ∙ get_or-append-add before (items ++ after) j 0 ∙ get_or_append_left items after 0 j within
 
 -- an entry of another row does not depend on it
 entry_beside : (k row i j : ℕ) (before items new after : List ℕ) → length before ≡ row * k → length items ≡ k → length new ≡ k → j < k → i ≢ row
     → matrix_entry k (before ++ (new ++ after)) i j ≡ matrix_entry k (before ++ (items ++ after)) i j
-entry_beside k row i j before items new after place long new_long inside other =
+entry_beside k row i j before items new after position long new_long inside other =
     elim (cases_lt i row) [
       | inl low ↦
           let fits = row_fits i k row k low (omega arith) in
@@ -32,19 +32,19 @@ entry_beside k row i j before items new after place long new_long inside other =
   where
     past : (xs : List ℕ) → length xs ≡ k → row * k + k ≤ i * k → get_or (before ++ (xs ++ after)) (i * k + j) 0 ≡ get_or after (i * k + j - row * k - k) 0
     past xs known fits =
-        get_or-append_right before (xs ++ after) (row * k) (i * k + j) 0 place (omega arith)
+        get_or-append_right before (xs ++ after) (row * k) (i * k + j) 0 position (omega arith)
         ∙ get_or-append_right xs after k (i * k + j - row * k) 0 known (omega arith)
 
 -- a row was replaced by itself and a multiple of another
 Added-from_parts : (k target source factor : ℕ) (old before items new after added : List ℕ) → old ≡ before ++ (items ++ after) → length before ≡ target * k → length items ≡ k → length added ≡ k
     → ((j : ℕ) → j < k → get_or added j 0 ≡ matrix_entry k old source j) → new ≡ plus_multiple items added factor → IsRowAdded k old (before ++ (new ++ after)) target source factor
-Added-from_parts k target source factor old before items new after added parts place long added_long reads written = record {
+Added-from_parts k target source factor old before items new after added parts position long added_long reads written = record {
   sum = λ j inside.
-      entry_in k target j before new after place (omega (arith, new_long)) ∙ ap (λ xs. get_or xs j 0) written
+      entry_in k target j before new after position (omega (arith, new_long)) ∙ ap (λ xs. get_or xs j 0) written
       ∙ get_or-plus_multiple items added factor j (omega arith) (omega arith)
-      ∙ ap₂ (λ x y. bit_xor x (product factor y)) (sym (ap (λ xs. matrix_entry k xs target j) parts ∙ entry_in k target j before items after place (omega arith))) (reads j inside);
+      ∙ ap₂ (λ x y. bit_xor x (product factor y)) (sym (ap (λ xs. matrix_entry k xs target j) parts ∙ entry_in k target j before items after position (omega arith))) (reads j inside);
   others = λ i j within inside other.
-      entry_beside k target i j before items new after place long new_long inside other ∙ ap (λ xs. matrix_entry k xs i j) (sym parts);
+      entry_beside k target i j before items new after position long new_long inside other ∙ ap (λ xs. matrix_entry k xs i j) (sym parts);
 }
   where
     new_long : length new ≡ k
@@ -53,18 +53,18 @@ Added-from_parts k target source factor old before items new after added parts p
 -- the row that is added stands above
 pub Added-from_above : (k target source factor n : ℕ) (old above below new : List ℕ) → old ≡ above ++ below → length above ≡ target * k → k ≤ length below → source < target → n ≡ k
     → new ≡ plus_multiple (take k below) (take n (drop (source * k) above)) factor → IsRowAdded k old (above ++ (new ++ drop k below)) target source factor
-Added-from_above k target source factor n old above below new parts place room order whole written =
+Added-from_above k target source factor n old above below new parts position room order whole written =
     let fits = row_fits source k target k order (omega arith) in
     let rest : n ≤ length (drop (source * k) above) = omega (arith, length-drop (source * k) above) in
     Added-from_parts k target source factor old above (take k below) new (drop k below) (take n (drop (source * k) above))
-    (parts ∙ ap (λ xs. above ++ xs) (sym (take-append-drop k below))) place (length-take-le k below room) (length-take-le n (drop (source * k) above) rest ∙ whole)
+    (parts ∙ ap (λ xs. above ++ xs) (sym (take-append-drop k below))) position (length-take-le k below room) (length-take-le n (drop (source * k) above) rest ∙ whole)
     (λ j inside. get_or-take n (drop (source * k) above) j 0 (omega arith) ∙ get_or-drop (source * k) above j 0
     ∙ sym (get_or_append_left above below 0 (source * k + j) (omega arith)) ∙ ap (λ xs. matrix_entry k xs source j) (sym parts)) written
 
 -- the row that is added stands below
 pub Added-from_below : (k target source factor n : ℕ) (old above below new : List ℕ) → old ≡ above ++ below → length above ≡ source * k → k ≤ length below → target < source → n ≡ k
     → new ≡ plus_multiple (take n (drop (target * k) above)) (take k below) factor → IsRowAdded k old (put_mid (target * k) n above new ++ below) target source factor
-Added-from_below k target source factor n old above below new parts place room order whole written =
+Added-from_below k target source factor n old above below new parts position room order whole written =
     let fits = row_fits target k source k order (omega arith) in
     let rest : n ≤ length (drop (target * k) above) = omega (arith, length-drop (target * k) above) in
     subst (λ xs. IsRowAdded k old xs target source factor)
@@ -74,7 +74,7 @@ Added-from_below k target source factor n old above below new parts place room o
     ∙ append_assoc before (take n (drop (target * k) above) ++ after) below ∙ ap (λ xs. before ++ xs) (append_assoc (take n (drop (target * k) above)) after below))
     (length-take-le (target * k) above (omega arith)) (length-take-le n (drop (target * k) above) rest ∙ whole) (length-take-le k below room)
     (λ j inside. get_or-take k below j 0 inside ∙ sym (get_or-append-add above below j 0)
-    ∙ ap₂ (λ m xs. get_or xs (m + j) 0) place (sym parts)) written)
+    ∙ ap₂ (λ m xs. get_or xs (m + j) 0) position (sym parts)) written)
   where
     before : List ℕ
     before = take (target * k) above
@@ -87,10 +87,10 @@ pub Scaled-from_parts : (k row factor n : ℕ) (old new : List ℕ) → length o
     → ((j : ℕ) → j < k → get_or new j 0 ≡ product factor (get_or (take n (drop (row * k) old)) j 0)) → IsRowScaled k old (put_mid (row * k) n old new) row factor
 Scaled-from_parts k row factor n old new square inside whole new_long written = record {
   multiple = λ j h.
-      entry_in k row j before new after place (omega arith) ∙ written j h
+      entry_in k row j before new after position (omega arith) ∙ written j h
       ∙ ap (product factor) (get_or-take n (drop (row * k) old) j 0 (omega arith) ∙ get_or-drop (row * k) old j 0);
   others = λ i j within h other.
-      entry_beside k row i j before items new after place long new_long h other ∙ ap (λ xs. matrix_entry k xs i j) parts;
+      entry_beside k row i j before items new after position long new_long h other ∙ ap (λ xs. matrix_entry k xs i j) parts;
 }
   where
     before : List ℕ
@@ -105,8 +105,8 @@ Scaled-from_parts k row factor n old new square inside whole new_long written = 
     fits : row * k + k ≤ length old
     fits = omega (arith, row_fits row k k k inside (omega arith))
 
-    place : length before ≡ row * k
-    place = length-take-le (row * k) old (omega (arith, fits))
+    position : length before ≡ row * k
+    position = length-take-le (row * k) old (omega (arith, fits))
 
     long : length items ≡ k
     long = length-take-le n (drop (row * k) old) (omega (arith, fits, length-drop (row * k) old)) ∙ whole

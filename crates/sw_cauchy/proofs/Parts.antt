@@ -15,7 +15,7 @@ range_more : (n : ℕ) → range_with_len 0 (n + 1) ≡ range_with_len 0 n ++ n 
 range_more n =
     sym (map-id (range_with_len 0 (n + 1))) ∙ map-range_with_len_more (λ i. i) 0 n n (zero-add n) ∙ ap (λ xs. xs ++ n ∷ []) (map-id (range_with_len 0 n))
 
--- one more part, made from its place
+-- one more part, made from its position
 pub flat_map-range_more : (f : ℕ → List ℕ) (n : ℕ) → flat_map f (range_with_len 0 (n + 1)) ≡ flat_map f (range_with_len 0 n) ++ f n
 flat_map-range_more f n = ap (flat_map f) (range_more n) ∙ flat_map-push f (range_with_len 0 n) n
 
@@ -25,14 +25,14 @@ length-parts f width [] wide = omega arith
 length-parts f width (x ∷ xs) wide = length-append (f x) (flat_map f xs) ∙ omega (arith, wide x, length-parts f width xs wide)
 
 -- an element of a part
-pub get_or-part : (f : ℕ → List ℕ) (width : ℕ) (xs : List ℕ) (i place : ℕ) → ((x : ℕ) → length (f x) ≡ width) → i < length xs → place < width
-    → get_or (flat_map f xs) (i * width + place) 0 ≡ get_or (f (get_or xs i 0)) place 0
-get_or-part f width [] i place wide h l = absurd (omega arith)
-get_or-part f width (x ∷ xs) zero place wide h l =
-    ap (λ n. get_or (f x ++ flat_map f xs) n 0) (omega arith) ∙ get_or_append_left (f x) (flat_map f xs) 0 place (omega (arith, wide x))
-get_or-part f width (x ∷ xs) (suc i) place wide h l =
-    get_or-append_right (f x) (flat_map f xs) width (suc i * width + place) 0 (wide x) (omega arith)
-    ∙ ap (λ n. get_or (flat_map f xs) n 0) (omega arith) ∙ get_or-part f width xs i place wide (omega arith) l
+pub get_or-part : (f : ℕ → List ℕ) (width : ℕ) (xs : List ℕ) (i position : ℕ) → ((x : ℕ) → length (f x) ≡ width) → i < length xs → position < width
+    → get_or (flat_map f xs) (i * width + position) 0 ≡ get_or (f (get_or xs i 0)) position 0
+get_or-part f width [] i position wide h l = absurd (omega arith)
+get_or-part f width (x ∷ xs) zero position wide h l =
+    ap (λ n. get_or (f x ++ flat_map f xs) n 0) (omega arith) ∙ get_or_append_left (f x) (flat_map f xs) 0 position (omega (arith, wide x))
+get_or-part f width (x ∷ xs) (suc i) position wide h l =
+    get_or-append_right (f x) (flat_map f xs) width (suc i * width + position) 0 (wide x) (omega arith)
+    ∙ ap (λ n. get_or (flat_map f xs) n 0) (omega arith) ∙ get_or-part f width xs i position wide (omega arith) l
 
 -- a write to a part keeps the length
 length-put_mid : (a k : ℕ) (xs ys : List ℕ) → a + k ≤ length xs → length ys ≡ k → length (put_mid a k xs ys) ≡ length xs

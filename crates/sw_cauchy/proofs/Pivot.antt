@@ -44,7 +44,7 @@ module _ (k column : ℕ) (matrix : List ℕ) (inside : column < k) (bytes : IsB
       cond_both (t == column) 1 (cond (nat_lt t column) (matrix_entry k matrix t column) 0) (λ n. n < 256) (λ e. omega arith)
       (λ e. cond_both (nat_lt t column) (matrix_entry k matrix t column) 0 (λ n. n < 256) (λ e. bytes _) (λ e. omega arith))
 
-  -- the product at one place of row i
+  -- the product at one position of row i
   term : ℕ → ℕ → ℕ
   term i t = product (matrix_entry k matrix i t) (null_value k matrix column t)
 

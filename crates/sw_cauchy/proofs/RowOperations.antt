@@ -64,7 +64,7 @@ module _ (k : ℕ) (old new : List ℕ) (target source factor : ℕ) (target_in 
         | inr other ↦ h.others i j within inside other
       ]
 
-  -- so columns of the unit matrix stay, left of the place of the row that is added
+  -- so columns of the unit matrix stay, left of the position of the row that is added
   unit_columns_added : (count : ℕ) → count ≤ source → HasUnitColumns k old count → HasUnitColumns k new count
   unit_columns_added count behind unit i j within before =
       entry_kept i j within (omega arith) (unit source j source_in before ∙ rw (ne_eqb source j (λ e. omega arith)) refl) ∙ unit i j within before

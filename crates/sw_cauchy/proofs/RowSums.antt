@@ -8,7 +8,7 @@ use Rattle.sw_cauchy.proofs.FieldAlgebra.{xor_product}
 use Rattle.sw_cauchy.proofs.ColumnSums.{below, Has-below, below-lt, differ_below, sum_same, sum_xor, sum_product, sum_lt, sum_only, row_sum-over}
 use Rattle.sw_gf256.proofs.Products.{product_lt}
 
--- rows and columns that are the same at each place
+-- rows and columns that are the same at each position
 pub row_sum-same : (k : ℕ) (x y c d : ℕ → ℕ) → ((t : ℕ) → t < k → x t ≡ y t) → ((t : ℕ) → t < k → c t ≡ d t) → row_sum k x c ≡ row_sum k y d
 row_sum-same k x y c d rows columns =
     row_sum-over k x c ∙ sum_same (below k) _ _ (λ t h. ap₂ product (rows t (below-lt k t h)) (columns t (below-lt k t h))) ∙ sym (row_sum-over k y d)

@@ -7,8 +7,8 @@ use Rattle.std.proofs.lemmas.List.Quantifiers.{all_pairs_push}
 use Rattle.std.proofs.lemmas.Nat.{row_fits}
 use Rattle.sw_cauchy.specs.declared.code.Code.{Code}
 use Rattle.sw_cauchy.specs.declared.gather.Gather.TheInside.{Inside}
-use Rattle.sw_cauchy.specs.Gather.{shares_of, gathered, IsGather}
-use Rattle.sw_cauchy.specs.Share.{Share, Gathered}
+use Rattle.sw_cauchy.specs.Gather.{shares_of, gather_model, IsGather}
+use Rattle.sw_cauchy.specs.Share.{Share, GatherModel}
 
 -- as many shares as indices
 pub length-shares_of : (width : ℕ) (indices bytes : List ℕ) → length (shares_of width indices bytes) ≡ length indices
@@ -34,26 +34,26 @@ share_index width [] bytes t d e h = absurd (omega arith)
 share_index width (i ∷ indices) bytes zero d e h = refl
 share_index width (i ∷ indices) bytes (suc t) d e h = share_index width indices (drop width bytes) t d e (omega arith)
 
--- the byte at a place of a share
-pub share_byte : (width : ℕ) (indices bytes : List ℕ) (t place : ℕ) (d : Share) → t < length indices → place < width
-    → get_or ((get_or (shares_of width indices bytes) t d).bytes) place 0 ≡ get_or bytes (t * width + place) 0
-share_byte width [] bytes t place d h l = absurd (omega arith)
-share_byte width (i ∷ indices) bytes zero place d h l = get_or-take width bytes place 0 l ∙ ap (λ n. get_or bytes n 0) (omega arith)
-share_byte width (i ∷ indices) bytes (suc t) place d h l =
-    share_byte width indices (drop width bytes) t place d (omega arith) l
-    ∙ get_or-drop width bytes (t * width + place) 0 ∙ ap (λ n. get_or bytes n 0) (omega arith)
+-- the byte at a position of a share
+pub share_byte : (width : ℕ) (indices bytes : List ℕ) (t position : ℕ) (d : Share) → t < length indices → position < width
+    → get_or ((get_or (shares_of width indices bytes) t d).bytes) position 0 ≡ get_or bytes (t * width + position) 0
+share_byte width [] bytes t position d h l = absurd (omega arith)
+share_byte width (i ∷ indices) bytes zero position d h l = get_or-take width bytes position 0 l ∙ ap (λ n. get_or bytes n 0) (omega arith)
+share_byte width (i ∷ indices) bytes (suc t) position d h l =
+    share_byte width indices (drop width bytes) t position d (omega arith) l
+    ∙ get_or-drop width bytes (t * width + position) 0 ∙ ap (λ n. get_or bytes n 0) (omega arith)
 
 -- the number of shares gathered
-count_of_gathered : (inside : Inside) (gather : Gathered) → gathered inside ≡ gather → length gather.shares ≡ length inside.indices.items
-count_of_gathered inside gather view =
-    sym (ap (λ (v : Gathered). length v.shares) view) ∙ length-shares_of inside.width inside.indices.items inside.bytes.items
+share_count : (inside : Inside) (gather : GatherModel) → gather_model inside ≡ gather → length gather.shares ≡ length inside.indices.items
+share_count inside gather view =
+    sym (ap (λ (v : GatherModel). length v.shares) view) ∙ length-shares_of inside.width inside.indices.items inside.bytes.items
 
 -- with k shares there are k indices
-pub full_count : (inside : Inside) (gather : Gathered) → gathered inside ≡ gather → length gather.shares ≡ gather.k → length inside.indices.items ≡ inside.code.k
-full_count inside gather view enough = omega (arith, count_of_gathered inside gather view, ap (λ (v : Gathered). v.k) view)
+pub full_count : (inside : Inside) (gather : GatherModel) → gather_model inside ≡ gather → length gather.shares ≡ gather.k → length inside.indices.items ≡ inside.code.k
+full_count inside gather view enough = omega (arith, share_count inside gather view, ap (λ (v : GatherModel). v.k) view)
 
 -- and k pieces of bytes
-pub full_bytes : (inside : Inside) (gather : Gathered) → gathered inside ≡ gather → IsGather inside → length gather.shares ≡ gather.k → length inside.bytes.items ≡ inside.code.k * inside.width
+pub full_bytes : (inside : Inside) (gather : GatherModel) → gather_model inside ≡ gather → IsGather inside → length gather.shares ≡ gather.k → length inside.bytes.items ≡ inside.code.k * inside.width
 full_bytes inside gather view kept enough = kept.filled ∙ ap (λ n. n * inside.width) (full_count inside gather view enough)
 
 -- ---- a share is added
@@ -67,20 +67,20 @@ pub record MayAdd (before : Inside) (index : ℕ) (fragment : List ℕ) : Type 0
   pub new : (t d : ℕ) → t < length before.indices.items → get_or before.indices.items t d ≢ index
 
 -- the conditions of adding, of the fields
-pub may_add : (before : Inside) (gather : Gathered) (index : ℕ) (fragment : List ℕ) → gathered before ≡ gather → IsGather before
+pub may_add : (before : Inside) (gather : GatherModel) (index : ℕ) (fragment : List ℕ) → gather_model before ≡ gather → IsGather before
     → index < gather.k + gather.m → All (λ share. share.index ≢ index) gather.shares → length fragment ≡ gather.width → length gather.shares < gather.k
     → MayAdd before index fragment
 may_add before gather index fragment view kept below new width room =
-    let count = count_of_gathered before gather view in
-    let k = ap (λ (v : Gathered). v.k) view in
+    let count = share_count before gather view in
+    let k = ap (λ (v : GatherModel). v.k) view in
     let none : Share = record { index = 0; bytes = [] } in
     record {
       kept = kept;
       room = omega arith;
-      width = width ∙ sym (ap (λ (v : Gathered). v.width) view);
-      below = omega (arith, ap (λ (v : Gathered). v.m) view);
+      width = width ∙ sym (ap (λ (v : GatherModel). v.width) view);
+      below = omega (arith, ap (λ (v : GatherModel). v.m) view);
       new = λ t d h e.
-          new t none (omega arith) (ap (λ (v : Gathered). (get_or v.shares t none).index) (sym view) ∙ share_index before.width before.indices.items before.bytes.items t none d h ∙ e);
+          new t none (omega arith) (ap (λ (v : GatherModel). (get_or v.shares t none).index) (sym view) ∙ share_index before.width before.indices.items before.bytes.items t none d h ∙ e);
     }
 
 -- there is room for its bytes
@@ -114,8 +114,8 @@ IsGather-added before after index fragment may added =
     }
 
 -- the share is the last one gathered
-pub gathered-added : (before after : Inside) (gather : Gathered) (index : ℕ) (fragment : List ℕ) → gathered before ≡ gather → MayAdd before index fragment → IsAdded before after index fragment
-    → gathered after ≡ record gather { shares = gather.shares ++ record { index = index; bytes = fragment } ∷ [] }
-gathered-added before after gather index fragment view may added =
+pub gather_model-added : (before after : Inside) (gather : GatherModel) (index : ℕ) (fragment : List ℕ) → gather_model before ≡ gather → MayAdd before index fragment → IsAdded before after index fragment
+    → gather_model after ≡ record gather { shares = gather.shares ++ record { index = index; bytes = fragment } ∷ [] }
+gather_model-added before after gather index fragment view may added =
     rw (added.code, added.width, added.indices, added.bytes, shares_of-push before.width before.indices.items before.bytes.items index fragment may.kept.filled may.width)
-    (ap (λ (v : Gathered). record v { shares = v.shares ++ record { index = index; bytes = fragment } ∷ [] }) view)
+    (ap (λ (v : GatherModel). record v { shares = v.shares ++ record { index = index; bytes = fragment } ∷ [] }) view)

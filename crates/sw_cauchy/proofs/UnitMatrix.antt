@@ -18,10 +18,10 @@ pub record HasUnitRows (k : ℕ) (matrix : List ℕ) (count : ℕ) : Type 0 wher
 pub UnitRows-none : (k : ℕ) → HasUnitRows k (replicate (k * k) 0) 0
 UnitRows-none k = record {
   diagonal = λ i h. absurd (omega arith);
-  bytes = λ place.
-      elim (cases_lt place (k * k)) [
-        | inl low ↦ omega (arith, get_or-replicate {A = ℕ} (k * k) place 0 0 low)
-        | inr high ↦ omega (arith, get_or_past {X = ℕ} (replicate (k * k) 0) place 0 (omega (arith, length-replicate {A = ℕ} (k * k) 0)))
+  bytes = λ position.
+      elim (cases_lt position (k * k)) [
+        | inl low ↦ omega (arith, get_or-replicate {A = ℕ} (k * k) position 0 0 low)
+        | inr high ↦ omega (arith, get_or_past {X = ℕ} (replicate (k * k) 0) position 0 (omega (arith, length-replicate {A = ℕ} (k * k) 0)))
       ];
   others = λ i j hi hj other. get_or-replicate (k * k) (i * k + j) 0 0 (mul-add-lt i k j k hi hj);
 }
@@ -37,15 +37,15 @@ UnitRows-more k matrix row within square h = record {
             get_or-set_other matrix (row * k + row) (i * k + i) 1 0 (λ e. other (same_from_place i i row row k (omega arith) within e).0)
             ∙ h.diagonal i (omega arith)
       ];
-  bytes = λ place.
-      elim (cases_eq place (row * k + row)) [
+  bytes = λ position.
+      elim (cases_eq position (row * k + row)) [
         | inl e ↦ subst (λ n. get_or (set matrix (row * k + row) 1) n 0 < 256) (sym e)
             (omega (arith, get_or-set_same {A = ℕ} matrix (row * k + row) 1 0 (omega (arith, mul-add-lt row k row k within within))))
-        | inr other ↦ omega (arith, get_or-set_other {A = ℕ} matrix (row * k + row) place 1 0 other, h.bytes place)
+        | inr other ↦ omega (arith, get_or-set_other {A = ℕ} matrix (row * k + row) position 1 0 other, h.bytes position)
       ];
   others = λ i j hi hj other.
       get_or-set_other matrix (row * k + row) (i * k + j) 1 0
-      (λ e. let place = same_from_place i j row row k hj within e in other (place.0 ∙ sym place.1))
+      (λ e. let position = same_from_place i j row row k hj within e in other (position.0 ∙ sym position.1))
       ∙ h.others i j hi hj other;
 }
 

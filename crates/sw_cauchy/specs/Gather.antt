@@ -2,7 +2,7 @@
 use Rattle.std.specs.Prelude.{◌≡◌, ◌≢◌, ℕ, ◌+◌, ◌*◌, ◌<◌, ◌≤◌, List, [], ◌∷◌, length, take, drop, vec_capacity}
 use Rattle.std.specs.List.{All, AllPairs}
 use Rattle.sw_cauchy.specs.declared.gather.Gather.TheInside.{Inside}
-use Rattle.sw_cauchy.specs.Share.{Share, Gathered}
+use Rattle.sw_cauchy.specs.Share.{Share, GatherModel}
 
 -- the shares of these indices, whose bytes stand one after another
 abbrev pub shares_of : ℕ → List ℕ → List ℕ → List Share
@@ -10,8 +10,8 @@ shares_of width [] bytes = []
 shares_of width (index ∷ indices) bytes =
     record { index = index; bytes = take width bytes } ∷ shares_of width indices (drop width bytes)
 
-abbrev pub gathered : Inside → Gathered
-gathered inside = record {
+abbrev pub gather_model : Inside → GatherModel
+gather_model inside = record {
   k = inside.code.k;
   m = inside.code.m;
   width = inside.width;

@@ -6,7 +6,7 @@ use Rattle.sw_gf256.specs.Field.{product, inverse}
 abbrev pub entry : ℕ → ℕ → ℕ → ℕ
 entry k i j = if nat_lt i k then (if i == j then 1 else 0) else inverse (bit_xor i j)
 
--- the sum of a row's products with a column, over as many of their places
+-- the sum of a row's products with a column, over as many of their positions
 unfoldable pub row_sum : ℕ → (ℕ → ℕ) → (ℕ → ℕ) → ℕ
 row_sum zero row column = 0
 row_sum (suc count) row column = bit_xor (row_sum count row column) (product (row count) (column count))

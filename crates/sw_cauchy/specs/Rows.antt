@@ -15,7 +15,7 @@ generator_rows k indices = flat_map (generator_row k) indices
 -- the sum of the products of the row's first entries with as many pieces, byte by byte
 unfoldable pub row_times : ℕ → ℕ → (ℕ → ℕ) → List ℕ → List ℕ
 row_times count width row pieces =
-    map (λ place. row_sum count row (λ j. slice_index pieces (j * width + place))) (range_with_len 0 width)
+    map (λ position. row_sum count row (λ j. slice_index pieces (j * width + position))) (range_with_len 0 width)
 
 -- the first rows of a matrix of k columns, each times k pieces, one after another
 abbrev pub rows_times : ℕ → ℕ → List ℕ → List ℕ → ℕ → List ℕ

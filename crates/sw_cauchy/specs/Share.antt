@@ -9,7 +9,7 @@ pub record Share : Type 0 where
   pub bytes : List ℕ
 
 -- what was gathered, of a code of k data and m parity fragments of one width
-pub record Gathered : Type 0 where
+pub record GatherModel : Type 0 where
   pub k : ℕ
   pub m : ℕ
   pub width : ℕ

@@ -12,9 +12,9 @@ fragment_width k bytes = (bytes + (k - 1)) / k
 abbrev pub padded : ℕ → List ℕ → List ℕ
 padded k segment = segment ++ replicate (k * fragment_width k (length segment) - length segment) 0
 
--- the byte at a place of fragment i
+-- the byte at a position of fragment i
 abbrev pub fragment_byte : ℕ → ℕ → List ℕ → ℕ → ℕ → ℕ
-fragment_byte k width pieces i place = row_sum k (entry k i) (λ j. slice_index pieces (j * width + place))
+fragment_byte k width pieces i position = row_sum k (entry k i) (λ j. slice_index pieces (j * width + position))
 
 -- fragment i of k pieces
 unfoldable pub fragment : ℕ → ℕ → List ℕ → ℕ → List ℕ

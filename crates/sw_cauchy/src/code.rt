@@ -1,14 +1,16 @@
 //! A code, and the fragments of a segment.
 
-ghost use Rattle.std.specs.Prelude.{◌≡◌, ◌+◌, ◌-◌, ◌*◌, ◌<◌, ◌≤◌, ◌++◌, IfOk, length, replicate};
+ghost use Rattle.std.specs.Prelude.{◌≡◌, ◌+◌, ◌*◌, ◌^◌, ◌<◌, ◌≤◌, IfOk, length, map, slice_index};
+ghost use Rattle.std.specs.List.{range_with_len};
 ghost use Rattle.sw_cauchy.specs.Matrix.{entry};
 ghost use Rattle.sw_cauchy.specs.Rows.{generator_row};
-ghost use Rattle.sw_cauchy.specs.Stripe.{fragment, fragment_width, segment_fragments};
+ghost use Rattle.sw_cauchy.specs.Stripe.{fragment_width, segment_fragment, segment_fragments};
+ghost use Rattle.sw_types.specs.Policy.{greatest_total};
 
-use crate::rows::row_times;
+use crate::rows::write_row_times;
 use std::alloc::Global;
 use sw_gf256::inv;
-use sw_types::{Bytes, NoMemory};
+use sw_types::{Bytes, NoMemory, Policy};
 
 /// A code of `k` data fragments and `m` parity fragments, at least one of each, at most three parity fragments for each
 /// data fragment, and at most 32 fragments in all.
@@ -19,19 +21,16 @@ pub struct Code {
     ghost some_data: { 1 ≤ k },
     ghost some_parity: { 1 ≤ m },
     ghost most_parity: { m ≤ 3 * k },
-    ghost total: { k + m ≤ 32 },
+    ghost total: { k + m ≤ greatest_total },
 }
 
 impl Code {
-    /// The greatest number of bytes of a segment.
-    pub const GREATEST_SEGMENT: usize = 4_194_304;
-
     /// The code of so many data and parity fragments.
     pub fn new(k: u32, m: u32) -> Code
         requires some_data { 1 ≤ k }
         requires some_parity { 1 ≤ m }
         requires most_parity { m ≤ 3 * k }
-        requires total { k + m ≤ 32 }
+        requires total { k + m ≤ greatest_total }
         ensures data { result.k ≡ k }
         ensures parity { result.m ≡ m }
     {
@@ -66,54 +65,59 @@ impl Code {
 
     /// The `k + m` fragments of a segment, the data fragments first. Each has a k-th of the segment's bytes, rounded up.
     pub fn encode_stripe(&self, alloc: Global, segment: &[u8]) -> Result<Vec<Bytes>, NoMemory>
-        requires not_empty { 0 < length segment.now }
-        requires within { length segment.now ≤ 4194304 }
         ensures { IfOk result (λ fragments. fragments.items ≡ segment_fragments self.now.k (self.now.k + self.now.m) segment.now) }
     {
         let width = self.fragment_width(segment.len());
-        let pieces = pad(alloc, segment, self.k as usize * width)?;
         let count = self.k + self.m;
         let mut fragments = Vec::with_capacity(alloc, count as usize)?;
-        for i in 0..count {
-            let fragment = self.fragment(alloc, &pieces, width, i)?;
-            fragments.push(fragment)?;
+        for index in 0..count {
+            let mut fragment = vec![in alloc; 0; width]?;
+            self.write_fragment(&mut fragment, segment, index);
+            fragments.push(Bytes::from(fragment))?;
         }
         Ok(fragments)
     }
 
+    /// Writes the fragment of an index of a segment. It takes no memory.
+    pub fn write_fragment(&self, fragment: &mut [u8], segment: &[u8], index: u32)
+        requires index { index < self.now.k + self.now.m }
+        requires width { length fragment.old ≡ fragment_width self.now.k (length segment.now) }
+        ensures { fragment.new ≡ segment_fragment self.now.k segment.now index }
+    {
+        if index < self.k {
+            write_piece(fragment, segment, index as usize);
+        } else {
+            let mut room = [0; Policy::GREATEST_TOTAL as usize];
+            let row = &mut room[..self.k as usize];
+            self.write_row(row, index);
+            write_row_times(fragment, row, segment);
+        }
+    }
+
     /// A k-th of so many bytes, rounded up.
-    pub(crate) fn fragment_width(&self, bytes: usize) -> usize
+    pub fn fragment_width(&self, bytes: usize) -> usize
         ensures { result ≡ fragment_width self.now.k bytes }
     {
         bytes.div_ceil(self.k as usize)
     }
+}
 
-    /// Fragment `i` of k pieces of one width, which stand one after another.
-    pub(crate) fn fragment(
-        &self,
-        alloc: Global,
-        pieces: &[u8],
-        width: usize,
-        i: u32,
-    ) -> Result<Bytes, NoMemory>
-        requires index { i < self.now.k + self.now.m }
-        requires pieces { length pieces.now ≡ self.now.k * width }
-        ensures { IfOk result (λ bytes. bytes ≡ fragment self.now.k width pieces.now i) }
-    {
-        let mut room = [0; 256];
-        let row = &mut room[..self.k as usize];
-        self.write_row(row, i);
-        row_times(alloc, row, pieces, width)
+impl From<Policy> for Code {
+    ghost from_gives = { λ policy code. (code.k ≡ policy.k) × (code.m ≡ policy.m) };
+
+    fn from(policy: Policy) -> Code {
+        Code::new(policy.k(), policy.m())
     }
 }
 
-// The bytes, and zeros up to a length.
-fn pad(alloc: Global, bytes: &[u8], padded_length: usize) -> Result<Vec<u8>, NoMemory>
-    requires { length bytes.now ≤ padded_length }
-    ensures { IfOk result (λ padded. padded.items ≡ bytes.now ++ replicate (padded_length - length bytes.now) 0) }
+// Writes piece `j` of a segment that is cut into pieces of one width, with zeros behind where the segment ends early.
+fn write_piece(piece: &mut [u8], segment: &[u8], j: usize)
+    requires { j * length piece.old < 2 ^ 64 }
+    ensures { piece.new ≡ map (λ position. slice_index segment.now (j * length piece.old + position)) (range_with_len 0 (length piece.old)) }
 {
-    let mut padded = Vec::with_capacity(alloc, padded_length)?;
-    padded.extend_from_slice(bytes)?;
-    padded.resize(padded_length, 0)?;
-    Ok(padded)
+    let width = piece.len();
+    let rest = &segment[(j * width).min(segment.len())..];
+    let (bytes, zeros) = piece.split_at_mut(width.min(rest.len()));
+    bytes.copy_from_slice(&rest[..bytes.len()]);
+    zeros.fill(0);
 }

@@ -11,7 +11,7 @@ use crate::decode::decode_matrix;
 use crate::rows::{matrix_times, row_times};
 use std::alloc::Global;
 use std::marker::Model;
-use sw_types::{Bytes, NoMemory};
+use sw_types::{Bytes, NoMemory, Policy};
 
 /// Fragments of one segment, up to k of them, from which the segment and every other fragment are decoded.
 #[derive(Debug, Drop)]
@@ -23,13 +23,13 @@ pub struct Gather {
 }
 
 impl Model for Gather {
-    ghost use Rattle.sw_cauchy.specs.Share.{Gathered};
+    ghost use Rattle.sw_cauchy.specs.Share.{GatherModel};
 
-    ghost Value = { Gathered };
+    ghost Value = { GatherModel };
 
-    ghost use Rattle.sw_cauchy.specs.Gather.{gathered, IsGather};
+    ghost use Rattle.sw_cauchy.specs.Gather.{gather_model, IsGather};
 
-    ghost view = { gathered };
+    ghost view = { gather_model };
 
     ghost invariant = { IsGather };
 }
@@ -67,7 +67,8 @@ impl Gather {
     pub fn finish(&self, alloc: Global, segment_length: usize) -> Result<Bytes, NoMemory>
         requires enough { length self.now.shares ≡ self.now.k }
         requires fits { fragment_width self.now.k segment_length ≡ self.now.width }
-        ensures { (pieces : List ℕ) → IsBytes pieces → length pieces ≡ self.now.k * self.now.width →
+        ensures length { IfOk result (λ segment. length segment ≡ segment_length) }
+        ensures decoded { (pieces : List ℕ) → IsBytes pieces → length pieces ≡ self.now.k * self.now.width →
             AreFragments self.now.k self.now.width pieces self.now.shares →
             IfOk result (λ segment. segment ≡ take segment_length pieces) }
     {
@@ -82,14 +83,16 @@ impl Gather {
     pub fn rebuild(&self, alloc: Global, index: u32) -> Result<Bytes, NoMemory>
         requires enough { length self.now.shares ≡ self.now.k }
         requires below { index < self.now.k + self.now.m }
-        ensures { (pieces : List ℕ) → IsBytes pieces → length pieces ≡ self.now.k * self.now.width →
+        ensures length { IfOk result (λ bytes. length bytes ≡ self.now.width) }
+        ensures decoded { (pieces : List ℕ) → IsBytes pieces → length pieces ≡ self.now.k * self.now.width →
             AreFragments self.now.k self.now.width pieces self.now.shares →
             IfOk result (λ bytes. bytes ≡ fragment self.now.k self.now.width pieces index) }
     {
         let matrix = decode_matrix(alloc, self.code, &self.indices)?;
-        let k = self.code.k as usize;
         // The row that makes the fragment from the shares is that fragment of the matrix's rows.
-        let row = self.code.fragment(alloc, &matrix, k, index)?;
-        row_times(alloc, row.as_slice(), &self.bytes, self.width)
+        let mut room = [0; Policy::GREATEST_TOTAL as usize];
+        let row = &mut room[..self.code.k as usize];
+        self.code.write_fragment(row, &matrix, index);
+        row_times(alloc, row, &self.bytes, self.width)
     }
 }

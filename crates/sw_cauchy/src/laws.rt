@@ -1,13 +1,17 @@
 //! Laws of the code, each the contract of a function without arguments.
 
-ghost use Rattle.std.specs.Prelude.{◌≡◌, ◌≢◌, ℕ, ◌<◌, ◌≤◌, List, length};
+ghost use Rattle.std.specs.Prelude.{◌≡◌, ◌≢◌, ℕ, ◌*◌, ◌<◌, ◌≤◌, List, length};
 ghost use Rattle.std.specs.List.{All, AllPairs};
-ghost use Rattle.sw_cauchy.specs.Linear.{AreIndependent};
+ghost use Rattle.sw_words.specs.Bytes.{IsBytes};
+ghost use Rattle.sw_cauchy.specs.Linear.{AreIndependent, IsInverse};
 ghost use Rattle.sw_cauchy.specs.Rows.{generator_rows};
 
-/// Any k rows of the generator matrix, no two of them the same row, are independent.
+/// Any k rows of the generator matrix, no two of them the same row, are independent, and so have an inverse.
 pub fn any_rows_law()
-    ensures { (k : ℕ) (indices : List ℕ) → k ≤ 256 → length indices ≡ k →
+    ensures independent { (k : ℕ) (indices : List ℕ) → k ≤ 256 → length indices ≡ k →
         All (λ i. i < 256) indices → AllPairs (λ i j. i ≢ j) indices →
         AreIndependent k (generator_rows k indices) }
+    ensures invertible { (k : ℕ) (indices : List ℕ) → k ≤ 256 → length indices ≡ k →
+        All (λ i. i < 256) indices → AllPairs (λ i j. i ≢ j) indices →
+        (inverse : List ℕ) × IsBytes inverse × (length inverse ≡ k * k) × IsInverse k inverse (generator_rows k indices) }
 {}

@@ -7,14 +7,13 @@ use std::alloc::Global;
 use sw_gf256::mul_acc;
 use sw_types::{Bytes, NoMemory};
 
-/// The sum of the products of a row's entries with as many pieces, which stand one after another.
+/// The sum of the products of a row's entries with as many pieces of one width, which stand one after another.
 pub(crate) fn row_times(
     alloc: Global,
     row: &[u8],
     pieces: &[u8],
     width: usize,
 ) -> Result<Bytes, NoMemory>
-    requires { length pieces.now ≡ length row.now * width }
     ensures { IfOk result (λ sum. sum ≡ row_times (length row.now) width (slice_index row.now) pieces.now) }
 {
     let mut sum = vec![in alloc; 0; width]?;
@@ -42,14 +41,17 @@ pub(crate) fn matrix_times(
     Ok(sums)
 }
 
-/// Writes the sum of the products of a row's entries with as many pieces.
+/// Writes the sum of the products of a row's entries with as many pieces, which stand one after another. Where they end
+/// early, zeros count in place of what is missing.
 pub(crate) fn write_row_times(sum: &mut [u8], row: &[u8], pieces: &[u8])
-    requires { length pieces.now ≡ length row.now * length sum.old }
     ensures { sum.new ≡ row_times (length row.now) (length sum.old) (slice_index row.now) pieces.now }
 {
     let width = sum.len();
     sum.fill(0);
-    for (j, factor) in row.iter().enumerate() {
-        mul_acc(sum, &pieces[j * width..(j + 1) * width], *factor);
+    let mut rest = pieces;
+    for factor in row {
+        let (piece, after) = rest.split_at(width.min(rest.len()));
+        mul_acc(&mut sum[..piece.len()], piece, *factor);
+        rest = after;
     }
 }

@@ -11,8 +11,7 @@ use Rattle.std.specs.Str.{IsAscii}
 use Rattle.hex.specs.Hex.{decode_sized, encode_lower, lower_digits}
 use Rattle.hex.specs.declared.error.FromHexError.{FromHexError}
 use Rattle.hex.proofs.HexLemmas.{IsAscii-encode_with, decode_of-encode_lower, decode_sized-twice, length-encode_with}
-use Rattle.sw_words.specs.Bytes.{IsBytes}
-use Rattle.sw_hashpath.specs.Place.{IsSpot, Spot, folder_of, spot_of, suffix_of}
+use Rattle.sw_hashpath.specs.Place.{IsHash, IsPlace, PlaceModel, folder_of, place_of, suffix_of}
 
 -- two digits a byte
 pub length-encode_lower : (hash : List ℕ) → length (encode_lower hash) ≡ 2 * length hash
@@ -22,33 +21,33 @@ length-encode_lower hash = length-encode_with lower_digits hash
 digits_at_end : (text front hash : List ℕ) → length hash ≡ 16 → text ≡ front ++ encode_lower hash → drop (length text - 32) text ≡ encode_lower hash
 digits_at_end text front hash sixteen ends =
     let size = length-encode_lower hash in
-    let place : length front ≡ length text - 32 = omega (arith, ap length ends, length-append front (encode_lower hash)) in
-    ap (λ bytes. drop (length text - 32) bytes) ends ∙ drop_at front (encode_lower hash) (length text - 32) place
+    let behind : length front ≡ length text - 32 = omega (arith, ap length ends, length-append front (encode_lower hash)) in
+    ap (λ bytes. drop (length text - 32) bytes) ends ∙ drop_at front (encode_lower hash) (length text - 32) behind
 
 -- what is read from the last 32 bytes of such a text is the hash
-pub hash_from_end : (text front hash digits out : List ℕ) (result : Result (Unit {0}) FromHexError) → length hash ≡ 16 → IsBytes hash → text ≡ front ++ encode_lower hash → digits ≡ drop (length text - 32) text → MatchResult (decode_sized digits 16) (λ bytes. (result ≡ Ok tt) × (out ≡ bytes)) (λ fault. result ≡ Err fault) → (result ≡ Ok tt) × (out ≡ hash)
-hash_from_end text front hash digits out result sixteen bytes ends last read =
-    let twice : length (encode_lower hash) ≡ 2 * 16 = omega (arith, length-encode_lower hash) in
+pub hash_from_end : (text front hash digits out : List ℕ) (result : Result (Unit {0}) FromHexError) → IsHash hash → text ≡ front ++ encode_lower hash → digits ≡ drop (length text - 32) text → MatchResult (decode_sized digits 16) (λ bytes. (result ≡ Ok tt) × (out ≡ bytes)) (λ fault. result ≡ Err fault) → (result ≡ Ok tt) × (out ≡ hash)
+hash_from_end text front hash digits out result is_hash ends last read =
+    let twice : length (encode_lower hash) ≡ 2 * 16 = omega (arith, length-encode_lower hash, is_hash.sixteen) in
     let decoded : decode_sized digits 16 ≡ Ok hash =
-    ap (λ text. decode_sized text 16) (last ∙ digits_at_end text front hash sixteen ends) ∙ decode_sized-twice (encode_lower hash) 16 twice ∙ decode_of-encode_lower hash bytes in
+    ap (λ text. decode_sized text 16) (last ∙ digits_at_end text front hash is_hash.sixteen ends) ∙ decode_sized-twice (encode_lower hash) 16 twice ∙ decode_of-encode_lower hash is_hash.bytes in
     rw decoded at read
 
 -- a folder ends with the digits of its hash
-folder_end : (spot : Spot) → (front : List ℕ) × (folder_of spot ≡ front ++ encode_lower spot.hash)
-folder_end spot =
-    let front = codes "objects/" ++ decimal spot.part ++ 47 ∷ suffix_of spot.hash in
-    (front ++ 47 ∷ [], sym (append_assoc front (47 ∷ []) (encode_lower spot.hash)))
+folder_end : (place : PlaceModel) → (front : List ℕ) × (folder_of place ≡ front ++ encode_lower place.hash)
+folder_end place =
+    let front = codes "objects/" ++ decimal place.part ++ 47 ∷ suffix_of place.hash in
+    (front ++ 47 ∷ [], sym (append_assoc front (47 ∷ []) (encode_lower place.hash)))
 
 -- what reads the hash at the end of a text reads that of a folder
-pub folder_hash : (power : ℕ) (spot : Spot) (text : List ℕ) (read : Option (List ℕ)) → IsSpot power spot → text ≡ folder_of spot → ((front hash : List ℕ) → length hash ≡ 16 → IsBytes hash → text ≡ front ++ encode_lower hash → read ≡ Some hash) → read ≡ Some spot.hash
-folder_hash power spot text read is_spot printed reads =
-    let end = folder_end spot in
-    reads end.0 spot.hash is_spot.hash is_spot.bytes (printed ∙ end.1)
+pub folder_hash : (power : ℕ) (place : PlaceModel) (text : List ℕ) (read : Option (List ℕ)) → IsPlace power place → text ≡ folder_of place → ((front hash : List ℕ) → IsHash hash → text ≡ front ++ encode_lower hash → read ≡ Some hash) → read ≡ Some place.hash
+folder_hash power place text read is_place printed reads =
+    let end = folder_end place in
+    reads end.0 place.hash is_place.hash (printed ∙ end.1)
 
 -- a place is that of its hash
-pub spot_of-hash : (power : ℕ) (spot : Spot) (hash : List ℕ) → IsSpot power spot → hash ≡ spot.hash → spot_of hash power ≡ spot
-spot_of-hash power spot hash is_spot same =
-    ap (λ hash. spot_of hash power) same ∙ ap (λ part. record { part = part; hash = spot.hash }) (sym is_spot.part)
+pub place_of-hash : (power : ℕ) (place : PlaceModel) (hash : List ℕ) → IsPlace power place → hash ≡ place.hash → place_of hash power ≡ place
+place_of-hash power place hash is_place same =
+    ap (λ hash. place_of hash power) same ∙ ap (λ part. record { part = part; hash = place.hash }) (sym is_place.part)
 
 -- the digits are bytes of ASCII
 IsAscii-lower_digits : IsAscii lower_digits
@@ -56,8 +55,8 @@ IsAscii-lower_digits =
     IsAscii-from_all lower_digits (All-weaker (λ digit. nat_lt digit 128 ≡ true) (λ digit. digit < 128) (λ digit. ltb-true digit 128) lower_digits (AllPass-from_list_all (λ digit. nat_lt digit 128) lower_digits refl))
 
 -- and so is each digit of a hash
-pub digits_ascii : (hash : List ℕ) (place : ℕ) → slice_index (encode_lower hash) place < 128
-digits_ascii hash place = IsAscii-encode_with lower_digits hash IsAscii-lower_digits place
+pub digits_ascii : (hash : List ℕ) (position : ℕ) → slice_index (encode_lower hash) position < 128
+digits_ascii hash position = IsAscii-encode_with lower_digits hash IsAscii-lower_digits position
 
 -- what shows that the text of a hash may be cut before each digit
 pub ruleset digit_bytes = (digits_ascii, length-encode_lower)

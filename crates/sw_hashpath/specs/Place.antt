@@ -5,35 +5,40 @@ use Rattle.std.specs.Fmt.{decimal}
 use Rattle.std.specs.Int.{from_be_bytes, w32}
 use Rattle.hex.specs.Hex.{encode_lower}
 use Rattle.md5.specs.Md5.{md5}
-use Rattle.sw_types.specs.Name.{Parts, path_of}
+use Rattle.sw_types.specs.Name.{NameModel, path_of}
 use Rattle.sw_words.specs.Bytes.{IsBytes}
 
--- where a name's objects are kept
-pub record Spot : Type 0 where
+-- a partition and a hash, which may be another partition's
+pub record PlaceModel : Type 0 where
   pub part : ℕ
   pub hash : List ℕ
 
+-- a hash is sixteen bytes
+pub record IsHash (hash : List ℕ) : Type 0 where
+  pub sixteen : length hash ≡ 16
+  pub bytes : IsBytes hash
+
 -- the hash of a name
-abbrev pub hash_of : Parts → List ℕ → List ℕ → List ℕ
+abbrev pub hash_of : NameModel → List ℕ → List ℕ → List ℕ
 hash_of name prefix suffix = md5 (prefix ++ path_of name ++ suffix)
 
 -- the partition of a hash, of 2^power: the highest bits of its first four bytes
 abbrev pub part_of : List ℕ → ℕ → ℕ
 part_of hash power = from_be_bytes w32 (take 4 hash) / 2 ^ (32 - power)
 
-abbrev pub spot_of : List ℕ → ℕ → Spot
-spot_of hash power = record { part = part_of hash power; hash = hash }
+-- the place of a hash
+abbrev pub place_of : List ℕ → ℕ → PlaceModel
+place_of hash power = record { part = part_of hash power; hash = hash }
 
--- sixteen bytes, and the partition that they give
-pub record IsSpot (power : ℕ) (spot : Spot) : Type 0 where
-  pub hash : length spot.hash ≡ 16
-  pub bytes : IsBytes spot.hash
-  pub part : spot.part ≡ part_of spot.hash power
+-- a place whose partition is that of its hash
+pub record IsPlace (power : ℕ) (place : PlaceModel) : Type 0 where
+  pub hash : IsHash place.hash
+  pub part : place.part ≡ part_of place.hash power
 
 -- the last three hexadecimal digits of a hash
 abbrev pub suffix_of : List ℕ → List ℕ
 suffix_of hash = drop 29 (encode_lower hash)
 
 -- the folder of a place
-abbrev pub folder_of : Spot → List ℕ
-folder_of spot = codes "objects/" ++ decimal spot.part ++ 47 ∷ suffix_of spot.hash ++ 47 ∷ encode_lower spot.hash
+abbrev pub folder_of : PlaceModel → List ℕ
+folder_of place = codes "objects/" ++ decimal place.part ++ 47 ∷ suffix_of place.hash ++ 47 ∷ encode_lower place.hash

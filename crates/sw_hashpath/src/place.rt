@@ -1,9 +1,8 @@
 //! Places of names, and their folders.
 
-ghost use Rattle.std.specs.Prelude.{◌≡◌, ◌≢◌, ◌≤◌, ◌<◌, ◌^◌, ◌∷◌, ◌++◌, ◌↔◌, ℕ, List, IfOk, IfSome, IsTrue, MatchOption, length, string_bytes};
+ghost use Rattle.std.specs.Prelude.{◌≡◌, ◌≢◌, ◌≤◌, ◌<◌, ◌^◌, ◌∷◌, ◌++◌, ◌↔◌, ℕ, List, IfOk, IfSome, IsTrue, MatchOption, string_bytes};
 ghost use Rattle.hex.specs.Hex.{encode_lower};
-ghost use Rattle.sw_words.specs.Bytes.{IsBytes};
-ghost use Rattle.sw_hashpath.specs.Place.{IsSpot, Spot, folder_of, hash_of, spot_of};
+ghost use Rattle.sw_hashpath.specs.Place.{IsHash, IsPlace, PlaceModel, folder_of, hash_of, place_of};
 
 use md5::{Digest, Md5};
 use std::alloc::Global;
@@ -13,7 +12,7 @@ use sw_types::{Name, NoMemory, is_decimal};
 // Where the suffix begins in the digits of a hash.
 const SUFFIX_START: usize = 29;
 
-/// A partition, and the MD5 of a name that lies in it.
+/// A partition and a hash. A message may carry a place that is wrong: its hash lies in another partition.
 #[derive(Clone, Copy, Debug, PartialEq, Eq)]
 pub struct Place {
     part: u32,
@@ -21,16 +20,25 @@ pub struct Place {
 }
 
 impl Model for Place {
-    ghost use Rattle.sw_hashpath.specs.Place.{Spot};
+    ghost use Rattle.sw_hashpath.specs.Place.{IsHash, PlaceModel};
 
-    ghost Value = { Spot };
+    ghost Value = { PlaceModel };
 
     ghost view = { λ place. record { part = place.part; hash = place.hash } };
 
-    ghost inverse = { λ spot. record { part = spot.part; hash = spot.hash } };
+    ghost invariant = { λ place. IsHash place.hash };
+
+    ghost inverse = { λ place. record { part = place.part; hash = place.hash } };
 }
 
 impl Place {
+    /// This partition and this hash, right or not.
+    pub fn new(part: u32, hash: [u8; 16]) -> Place
+        ensures { result ≡ record { part = part; hash = hash } }
+    {
+        Place { part, hash }
+    }
+
     /// The partition.
     pub fn part(&self) -> u32
         ensures { result ≡ self.now.part }
@@ -40,7 +48,8 @@ impl Place {
 
     /// The hash.
     pub fn hash(&self) -> [u8; 16]
-        ensures { result ≡ self.now.hash }
+        ensures value { result ≡ self.now.hash }
+        ensures sound { IsHash self.now.hash }
     {
         self.hash
     }
@@ -77,7 +86,8 @@ impl Place {
 /// The place of a hash among 2^power partitions. It takes no memory.
 pub fn place_of(hash: [u8; 16], power: u32) -> Place
     requires { power ≤ 16 }
-    ensures place { result ≡ spot_of hash power }
+    ensures place { result ≡ place_of hash power }
+    ensures right { IsPlace power result }
     ensures below { result.part < 2 ^ power }
 {
     let front = u32::from_be_bytes([hash[0], hash[1], hash[2], hash[3]]);
@@ -94,7 +104,8 @@ pub fn place_name(
     power: u32,
 ) -> Result<Place, NoMemory>
     requires { power ≤ 16 }
-    ensures place { IfOk result (λ place. place ≡ spot_of (hash_of name.now prefix.now suffix.now) power) }
+    ensures place { IfOk result (λ place. place ≡ place_of (hash_of name.now prefix.now suffix.now) power) }
+    ensures right { IfOk result (λ place. IsPlace power place) }
     ensures below { IfOk result (λ place. place.part < 2 ^ power) }
 {
     let path = name.path(alloc)?;
@@ -109,8 +120,8 @@ pub fn place_name(
 /// the hash. What `folder` prints is read back.
 pub fn read_folder(text: &str, power: u32) -> Option<Place>
     requires { power ≤ 16 }
-    ensures found { IfSome result (λ place. (text.now ≡ folder_of place) × IsSpot power place) }
-    ensures reads { (spot : Spot) → IsSpot power spot → text.now ≡ folder_of spot → result ≡ Some spot }
+    ensures found { IfSome result (λ place. (text.now ≡ folder_of place) × IsPlace power place) }
+    ensures reads { (place : PlaceModel) → IsPlace power place → text.now ≡ folder_of place → result ≡ Some place }
 {
     let text = text.as_bytes();
     let place = place_of(last_hash(text)?, power);
@@ -132,7 +143,7 @@ fn digits_of(hash: &[u8; 16]) -> [u8; 32]
 
 // The hash that the last 32 bytes of a text spell, if they do.
 fn last_hash(text: &[u8]) -> Option<[u8; 16]>
-    ensures { (front hash : List ℕ) → length hash ≡ 16 → IsBytes hash → text.now ≡ front ++ encode_lower hash → result ≡ Some hash }
+    ensures { (front hash : List ℕ) → IsHash hash → text.now ≡ front ++ encode_lower hash → result ≡ Some hash }
 {
     let digits = text.last_chunk::<32>()?;
     let mut hash = [0; 16];

@@ -20,6 +20,7 @@ fn reads_what_it_prints(rt: HostRuntime) -> Result<(), Fail> {
     for (power, part, folder) in cases {
         assert!(rt; power <= 16);
         let place = place_of(hash, power);
+        assert_eq!(rt; place, Place::new(part, hash));
         assert_eq!(rt; (place.part(), place.hash()), (part, hash));
         assert_eq!(rt; place.folder(rt.alloc())?.as_str(), folder);
         assert_eq!(rt; read_folder(folder, power), Some(place));
@@ -57,6 +58,19 @@ fn refuses_what_it_does_not_print(rt: HostRuntime) {
         assert!(rt; power <= 16);
         assert_eq!(rt; read_folder(text, power), None, "at {text}");
     }
+}
+
+#[test]
+fn keeps_a_wrong_partition(rt: HostRuntime) -> Result<(), Fail> {
+    let hash = <[u8; 16] as FromHex>::from_hex("900150983cd24fb0d6963f7d28e17f72")?;
+    let place = Place::new(8, hash);
+    let folder = place.folder(rt.alloc())?;
+    assert_eq!(rt;
+        folder.as_str(),
+        "objects/8/f72/900150983cd24fb0d6963f7d28e17f72"
+    );
+    assert_eq!(rt; read_folder(folder.as_str(), 4), None);
+    Ok(())
 }
 
 #[test]

@@ -1,7 +1,7 @@
 -- A source or a sink in memory, as its callers see it.
 use Rattle.std.specs.Prelude.{ℕ, ◌-◌, List, Option, None, Some}
 
-pub record InMemory : Type 0 where
+pub record MemoryModel : Type 0 where
   -- what a source has not given yet, or what was written to a sink
   pub bytes : List ℕ
   -- how many calls go on until each fails, where it was set to fail

@@ -1,8 +1,8 @@
 //! The outside of the program: where bytes come from and where they go.
 //!
 //! A [`Source`] tells what it has left to give, and a [`Sink`] what was written to it, where they know: over memory
-//! they do, over standard input and output they don't. Each has a count of faults, which never falls, and fails only
-//! where that count rose in the call.
+//! they do, over standard input and output they don't. Each has a count of faults: a call that fails raises it, and one
+//! that goes well leaves it. Those of this crate count one for each call that fails.
 #![tactic(auto)]
 
 mod adapters;

@@ -1,8 +1,8 @@
 //! A source and a sink in memory, for tests: each tells all that it has, and can be set to fail.
 
-ghost use Rattle.std.specs.Prelude.{◌≡◌, ◌≢◌, ◌↔◌, ◌+◌, ◌<◌, ◌≤◌, if◌then◌else◌, min, [], length, IsTrue, IsErr, IfOk};
+ghost use Rattle.std.specs.Prelude.{◌≡◌, ◌≢◌, ◌↔◌, ◌<◌, ◌≤◌, if◌then◌else◌, [], length, IsTrue, IsErr, IfOk};
 ghost use Rattle.std.specs.Io.KnownBytes.{ReadConsumes, WriteAppends};
-ghost use Rattle.sw_words.specs.Counts.{FailsByCount, last_count};
+ghost use Rattle.sw_words.specs.Counts.{CountsFailure, FailsByCount, one_more};
 ghost use Rattle.sw_io.specs.Memory.{one_fewer};
 
 use crate::{ReadFailed, Sink, Source, WriteFailed};
@@ -30,7 +30,7 @@ impl Fuse {
     fn passes(&mut self) -> bool
         ensures passes { IsTrue result ↔ (self.old.calls_left ≢ Some 0) }
         ensures calls { self.new.calls_left ≡ one_fewer self.old.calls_left }
-        ensures faults { self.new.faults ≡ (if result then self.old.faults else min (self.old.faults + 1) last_count) }
+        ensures faults { self.new.faults ≡ (if result then self.old.faults else one_more self.old.faults) }
         ensures never_falls { self.old.faults ≤ self.new.faults }
     {
         match self.calls_left {
@@ -48,7 +48,7 @@ impl Fuse {
 
     fn fail(&mut self)
         ensures calls { self.new.calls_left ≡ self.old.calls_left }
-        ensures faults { self.new.faults ≡ min (self.old.faults + 1) last_count }
+        ensures faults { self.new.faults ≡ one_more self.old.faults }
         ensures never_falls { self.old.faults ≤ self.new.faults }
     {
         self.faults = self.faults.saturating_add(1);
@@ -65,9 +65,9 @@ pub struct MemSource {
 
 impl Model for MemSource {
     ghost use Rattle.std.specs.Prelude.{◌≤◌, drop, vec_len};
-    ghost use Rattle.sw_io.specs.Memory.{InMemory};
+    ghost use Rattle.sw_io.specs.Memory.{MemoryModel};
 
-    ghost Value = { InMemory };
+    ghost Value = { MemoryModel };
 
     ghost view = { λ s. record { bytes = drop s.given s.all.items; calls_left = s.fuse.calls_left; faults = s.fuse.faults } };
 
@@ -108,6 +108,7 @@ impl Source for MemSource {
         ensures count { IfOk result (λ n. n ≤ length room.new) }
         ensures bytes { ReadConsumes (Some self.old.bytes) (Some self.new.bytes) result room.new }
         ensures cause { FailsByCount self.old.faults self.new.faults result }
+        ensures counted { CountsFailure self.old.faults self.new.faults result }
         ensures fails { IsErr result ↔ (self.old.calls_left ≡ Some 0) }
         ensures calls { self.new.calls_left ≡ one_fewer self.old.calls_left }
     {
@@ -130,9 +131,9 @@ pub struct MemSink {
 }
 
 impl Model for MemSink {
-    ghost use Rattle.sw_io.specs.Memory.{InMemory};
+    ghost use Rattle.sw_io.specs.Memory.{MemoryModel};
 
-    ghost Value = { InMemory };
+    ghost Value = { MemoryModel };
 
     ghost view = { λ s. record { bytes = s.kept.items; calls_left = s.fuse.calls_left; faults = s.fuse.faults } };
 }
@@ -177,6 +178,7 @@ impl Sink for MemSink {
         ensures count { IfOk result (λ n. n ≡ length piece.now) }
         ensures bytes { WriteAppends (Some self.old.bytes) (Some self.new.bytes) result piece.now }
         ensures cause { FailsByCount self.old.faults self.new.faults result }
+        ensures counted { CountsFailure self.old.faults self.new.faults result }
         ensures fails { self.old.calls_left ≡ Some 0 → IsErr result }
         ensures calls { self.new.calls_left ≡ one_fewer self.old.calls_left }
     {

@@ -2,8 +2,8 @@
 
 ghost use Rattle.std.specs.Prelude.{◌≡◌, ℕ, ◌<◌, ◌≤◌, List, Option, IfOk, OnOk, OnErr, length};
 ghost use Rattle.std.specs.Io.KnownBytes.{Appends, WriteAppends};
-ghost use Rattle.sw_io.specs.Whole.{AppendsFront};
-ghost use Rattle.sw_words.specs.Counts.{FailsByCount};
+ghost use Rattle.sw_io.specs.Whole.{AppendsProperFront};
+ghost use Rattle.sw_words.specs.Counts.{CountsFailure, FailsByCount};
 
 use thiserror::Error;
 
@@ -25,14 +25,16 @@ pub trait Sink {
         requires { 0 < length piece.now }
         ensures count { IfOk result (λ n. (0 < n) × (n ≤ length piece.now)) }
         ensures bytes { WriteAppends (written self.old) (written self.new) result piece.now }
-        ensures cause { FailsByCount (faults self.old) (faults self.new) result };
+        ensures cause { FailsByCount (faults self.old) (faults self.new) result }
+        ensures counted { CountsFailure (faults self.old) (faults self.new) result };
 }
 
-/// Writes all of the bytes, in as many pieces as the sink wants. At `Err` some front of them was written.
+/// Writes all of the bytes, in as many pieces as the sink wants. At `Err` a front of them was written, and not all.
 pub fn write_all<O: Sink>(sink: &mut O, bytes: &[u8]) -> Result<(), WriteFailed>
     ensures whole { OnOk result (Appends (O.written sink.old) (O.written sink.new) bytes.now) }
-    ensures front { OnErr result (AppendsFront (O.written sink.old) (O.written sink.new) bytes.now) }
+    ensures front { OnErr result (AppendsProperFront (O.written sink.old) (O.written sink.new) bytes.now) }
     ensures cause { FailsByCount (O.faults sink.old) (O.faults sink.new) result }
+    ensures counted { CountsFailure (O.faults sink.old) (O.faults sink.new) result }
 {
     let mut rest = bytes;
     while !rest.is_empty() {

@@ -1,11 +1,13 @@
 //! Where bytes come from.
 
-ghost use Rattle.std.specs.Prelude.{◌≡◌, ℕ, ◌+◌, ◌<◌, ◌≤◌, List, Option, IfOk, IfErr, OnOk, IsErrOf, length, vec_len};
-ghost use Rattle.std.specs.Io.{StartsWith, appended_bytes};
+ghost use Rattle.std.specs.Prelude.{◌≡◌, ℕ, ◌<◌, ◌≤◌, ◌++◌, List, Option, IfOk, OnOk, OnErr, IsErrOf, length, take, vec_len};
 ghost use Rattle.std.specs.Io.KnownBytes.{Consumes, IsAtEnd, ReadConsumes};
-ghost use Rattle.sw_words.specs.Counts.{FailsByCount, Rose};
+ghost use Rattle.sw_words.specs.Counts.{CountsFailure, FailsByCount, Rose, one_more};
+ghost use Rattle.sw_io.specs.Whole.{ConsumesFront};
+ghost use Rattle.sw_io.specs.declared.source.ReadError.TheVariants.{Failed, NoMemory as WantOfMemory};
 
 use std::alloc::Global;
+use sw_types::{Bytes, NoMemory};
 use thiserror::Error;
 
 /// The source failed, and its count of faults rose.
@@ -27,7 +29,8 @@ pub trait Source {
         requires { 0 < length room.old }
         ensures count { IfOk result (λ n. n ≤ length room.new) }
         ensures bytes { ReadConsumes (remaining self.old) (remaining self.new) result room.new }
-        ensures cause { FailsByCount (faults self.old) (faults self.new) result };
+        ensures cause { FailsByCount (faults self.old) (faults self.new) result }
+        ensures counted { CountsFailure (faults self.old) (faults self.new) result };
 }
 
 /// Why a source was not read to where it should be.
@@ -39,6 +42,22 @@ pub enum ReadError {
     /// There was no memory for what was read.
     #[error("out of memory")]
     NoMemory,
+}
+
+impl From<ReadFailed> for ReadError {
+    ghost from_gives = { λ _ error. error ≡ Failed };
+
+    fn from(_failed: ReadFailed) -> ReadError {
+        ReadError::Failed
+    }
+}
+
+impl From<NoMemory> for ReadError {
+    ghost from_gives = { λ _ error. error ≡ WantOfMemory };
+
+    fn from(_refused: NoMemory) -> ReadError {
+        ReadError::NoMemory
+    }
 }
 
 // How many bytes are read at once.
@@ -53,10 +72,15 @@ pub fn read_up_to<S: Source>(
     ensures bytes { IfOk result (λ bytes. Consumes (S.remaining source.old) (S.remaining source.new) bytes.items) }
     ensures limit { IfOk result (λ bytes. length bytes.items ≤ limit) }
     ensures end { IfOk result (λ bytes. length bytes.items < limit → IsAtEnd (S.remaining source.new)) }
+    ensures front { OnErr result (ConsumesFront (S.remaining source.old) (S.remaining source.new) limit) }
+
     ensures never_falls { S.faults source.old ≤ S.faults source.new }
     ensures failed { IsErrOf result ReadError.Failed → Rose (S.faults source.old) (S.faults source.new) }
+    ensures counted { IsErrOf result ReadError.Failed → S.faults source.new ≡ one_more (S.faults source.old) }
+    ensures no_memory { IsErrOf result ReadError.NoMemory → S.faults source.new ≡ S.faults source.old }
+    ensures quiet { OnOk result (S.faults source.new ≡ S.faults source.old) }
 {
-    let mut bytes = Vec::new(alloc);
+    let mut bytes = Bytes::new(alloc);
     let mut room = zeros(alloc, ROOM)?;
     while bytes.len() < limit {
         let want = (limit - bytes.len()).min(room.len());
@@ -64,36 +88,36 @@ pub fn read_up_to<S: Source>(
             break;
         }
     }
-    Ok(bytes)
+    Ok(bytes.into_vec())
 }
 
 // Reads once, appends what came, and answers how many bytes that is: none only at the end of the input.
 fn append_piece<S: Source>(
     source: &mut S,
     room: &mut [u8],
-    bytes: &mut Vec<u8>,
+    bytes: &mut Bytes,
 ) -> Result<usize, ReadError>
     requires { 0 < length room.old }
-    ensures appends { StartsWith bytes.new.items bytes.old.items }
-    ensures bytes { OnOk result (Consumes (S.remaining source.old) (S.remaining source.new)
-        (appended_bytes bytes.old.items bytes.new.items)) }
-    ensures count { IfOk result (λ n. vec_len bytes.new ≡ vec_len bytes.old + n) }
     ensures within { IfOk result (λ n. n ≤ length room.new) }
+    ensures appends { IfOk result (λ n. bytes.new ≡ bytes.old ++ take n room.new) }
+    ensures bytes { IfOk result (λ n. Consumes (S.remaining source.old) (S.remaining source.new) (take n room.new)) }
     ensures end { IfOk result (λ n. n ≡ 0 → IsAtEnd (S.remaining source.new)) }
+    ensures front { OnErr result (ConsumesFront (S.remaining source.old) (S.remaining source.new) (length room.new)) }
+
     ensures never_falls { S.faults source.old ≤ S.faults source.new }
     ensures failed { IsErrOf result ReadError.Failed → Rose (S.faults source.old) (S.faults source.new) }
+    ensures counted { IsErrOf result ReadError.Failed → S.faults source.new ≡ one_more (S.faults source.old) }
+    ensures no_memory { IsErrOf result ReadError.NoMemory → S.faults source.new ≡ S.faults source.old }
+    ensures quiet { OnOk result (S.faults source.new ≡ S.faults source.old) }
 {
-    let count = source.read(room).map_err(|_| ReadError::Failed)?;
-    bytes
-        .extend_from_slice(&room[..count])
-        .map_err(|_| ReadError::NoMemory)?;
+    let count = source.read(room)?;
+    bytes.extend_from_slice(&room[..count])?;
     Ok(count)
 }
 
 // So many bytes, to read into. At a literal length a proof would write them all out.
-fn zeros(alloc: Global, len: usize) -> Result<Vec<u8>, ReadError>
-    ensures len { IfOk result (λ zeros. vec_len zeros ≡ len) }
-    ensures cause { IfErr result (λ e. e ≡ ReadError.NoMemory) }
+fn zeros(alloc: Global, len: usize) -> Result<Vec<u8>, NoMemory>
+    ensures { IfOk result (λ zeros. vec_len zeros ≡ len) }
 {
-    vec![in alloc; 0u8; len].map_err(|_| ReadError::NoMemory)
+    Ok(vec![in alloc; 0u8; len]?)
 }

@@ -2,18 +2,47 @@
 
 use super::*;
 use std::io;
-use std::io::{ErrorKind, Read};
+use std::io::{ErrorKind, Read, Write};
 use std::test::Fail;
 
 const TEXT: &[u8] = b"from here to there";
 
-// A reader that gives nothing but errors.
+// A reader that is at its end, and a writer that takes everything, but for their first call, which fails: no clause can
+// say of a reader or a writer when it does.
 #[derive(Drop)]
-struct Broken;
+struct FailsOnce {
+    has_failed: bool,
+}
 
-impl Read for Broken {
-    fn read(&mut self, _room: &mut [u8]) -> io::Result<usize> {
+impl FailsOnce {
+    fn new() -> Self {
+        FailsOnce { has_failed: false }
+    }
+
+    fn fail_once(&mut self) -> io::Result<()> {
+        if self.has_failed {
+            return Ok(());
+        }
+        self.has_failed = true;
         Err(ErrorKind::ConnectionReset.into())
+    }
+}
+
+impl Read for FailsOnce {
+    fn read(&mut self, _room: &mut [u8]) -> io::Result<usize> {
+        self.fail_once()?;
+        Ok(0)
+    }
+}
+
+impl Write for FailsOnce {
+    fn write(&mut self, piece: &[u8]) -> io::Result<usize> {
+        self.fail_once()?;
+        Ok(piece.len())
+    }
+
+    fn flush(&mut self) -> io::Result<()> {
+        Ok(())
     }
 }
 
@@ -88,9 +117,12 @@ fn adapters_pass_on_bytes(rt: HostRuntime) -> Result<(), Fail> {
 
 #[test]
 fn adapters_pass_on_failures(rt: HostRuntime) -> Result<(), Fail> {
-    let mut source = ReadSource::new(TEXT.chain(Broken));
+    let mut source = ReadSource::new(TEXT.chain(FailsOnce::new()));
     let result = read_up_to(rt.alloc(), &mut source, 100);
     assert_eq!(rt; result.err(), Some(ReadError::Failed));
+
+    let mut sink = WriteSink::new(FailsOnce::new());
+    assert_eq!(rt; write_all(&mut sink, b"hello"), Err(WriteFailed));
 
     // The writer takes four bytes, and then none.
     let mut room = [0; 4];

@@ -1,10 +1,11 @@
--- The elements before a place of a list, the last of them first.
+-- The elements before a position of a list, the last of them first.
 use Rattle.std.proofs.Common.{◌≡◌, ℕ, ◌+◌, ◌<◌, ◌==◌, cond, List, [], ◌∷◌, length, get_or, take, drop, map, reverse, Some, refl, sym, ap, ◌∙◌}
 use Rattle.std.proofs.lemmas.List.{at_drop_more, map-append, reverse-append, take_more}
 use Rattle.std.proofs.lemmas.List.Sorted.{IsPermutation-reverse, list_any-IsPermutation}
 use Rattle.std.specs.List.{slice_get}
 use Rattle.std.specs.List.Sorted.{IsPermutation}
-use Rattle.sw_ring.specs.Ring.{duplicate_after, has_at, is_among, option_is, or_first, twice_after, twice_in}
+use Rattle.std.specs.Option.{option_or}
+use Rattle.sw_ring.specs.Ring.{duplicate_after, has_at, is_among, option_is, twice_after, twice_in}
 
 reverse_more : {X : Type 0} (xs : List X) (i : ℕ) (d : X) → i < length xs → reverse (take (i + 1) xs) ≡ get_or xs i d ∷ reverse (take i xs)
 reverse_more xs i d within = ap reverse (take_more xs i d within) ∙ reverse-append (take i xs) (get_or xs i d ∷ [])
@@ -28,13 +29,13 @@ twice_in_same part xs ys h (id ∷ ids) =
 
 pub twice_step : {X : Type 0} (f : X → List ℕ) (rows : List X) (i : ℕ) (row : X) → i < length rows → row ≡ get_or rows i row
     → twice_after (reverse (map f (take i rows))) (map f (drop i rows))
-    ≡ or_first (twice_in 0 (map f (take i rows)) (f row)) (twice_after (reverse (map f (take (i + 1) rows))) (map f (drop (i + 1) rows)))
+    ≡ option_or (twice_in 0 (map f (take i rows)) (f row)) (twice_after (reverse (map f (take (i + 1) rows))) (map f (drop (i + 1) rows)))
 twice_step f rows i row within is =
     let before = map f (take i rows) in
     let rest = map f (drop (i + 1) rows) in
     let one_more : reverse (map f (take (i + 1) rows)) ≡ f (get_or rows i row) ∷ reverse before =
     ap (λ ws. reverse (map f ws)) (take_more rows i row within) ∙ ap reverse (map-append f (take i rows) (get_or rows i row ∷ [])) ∙ reverse-append before (f (get_or rows i row) ∷ []) in
     at_drop_more (λ ws. twice_after (reverse before) (map f ws)) rows i row within
-    ∙ ap (λ w. or_first (twice_in 0 (reverse before) (f w)) (twice_after (f (get_or rows i row) ∷ reverse before) rest)) (sym is)
-    ∙ ap (λ found. or_first found (twice_after (f (get_or rows i row) ∷ reverse before) rest)) (sym (twice_in_same 0 before (reverse before) (IsPermutation-reverse before) (f row)))
-    ∙ ap (λ earlier. or_first (twice_in 0 before (f row)) (twice_after earlier rest)) (sym one_more)
+    ∙ ap (λ w. option_or (twice_in 0 (reverse before) (f w)) (twice_after (f (get_or rows i row) ∷ reverse before) rest)) (sym is)
+    ∙ ap (λ found. option_or found (twice_after (f (get_or rows i row) ∷ reverse before) rest)) (sym (twice_in_same 0 before (reverse before) (IsPermutation-reverse before) (f row)))
+    ∙ ap (λ earlier. option_or (twice_in 0 before (f row)) (twice_after earlier rest)) (sym one_more)

@@ -1,25 +1,28 @@
--- What members that break no rule are like.
-use Rattle.std.proofs.Common.{◌≡◌, ℕ, zero, suc, ◌+◌, ◌^◌, ◌<◌, ◌≤◌, ◌==◌, eqb, cond, Bool, true, false, nat_lt, List, [], ◌∷◌, length, get_or, map, Option, Some, None, refl, sym, ◌∙◌, ap, subst, arith}
+-- Members in which no broken rule is found keep the rules, and so does their cluster.
+use Rattle.std.proofs.Common.{◌≡◌, ℕ, zero, suc, ◌+◌, ◌^◌, ◌<◌, ◌≤◌, ◌==◌, eqb, cond, Bool, true, false, nat_lt, List, [], ◌∷◌, length, get_or, slice_index, Option, Some, None, option_map, refl, sym, ◌∙◌, ap, subst, arith}
 use Rattle.std.specs.Prelude.{◌≢◌}
+use Rattle.std.specs.Option.{option_or}
 use Rattle.std.proofs.lemmas.Bool.{or_parts}
 use Rattle.std.proofs.lemmas.Bool.Decides.{Decides-eqb, nat_tests}
-use Rattle.std.proofs.lemmas.List.Elements.{All-from_recursion}
+use Rattle.std.proofs.lemmas.List.Elements.{All-cons, All-map, All-nil, All-tail}
 use Rattle.std.proofs.lemmas.List.Sorted.{IsPermutation-map, length_permutation, list_any-IsPermutation}
 use Rattle.std.proofs.lemmas.Map.Made.{AllPairs-from_IsDistinct}
-use Rattle.std.specs.List.{All, AllByRecursion, AllPairs, IsDistinct}
+use Rattle.std.specs.List.{All, AllByRecursion, AllPairs, Contains, IsDistinct}
 use Rattle.std.specs.List.Sorted.{IsPermutation}
-use Rattle.sw_types.specs.Policy.{policy_fault}
+use Rattle.sw_ring.specs.declared.device.Device.{Device}
 use Rattle.sw_ring.specs.declared.fault.RingFault.{RingFault}
-use Rattle.sw_ring.specs.Cluster.{IsCluster, KeepsRules, ids_of}
-use Rattle.sw_ring.specs.Fields.{DeviceNumbers, Fields}
-use Rattle.sw_ring.specs.Ring.{duplicate_after, has_at, if_some, is_among, odd_row, or_first, ring_fault, rows_fault, twice_after, twice_in, unknown_device, unknown_in}
-use Rattle.sw_ring.proofs.Partition.{has_at_among}
+use Rattle.sw_ring.specs.Cluster.{ClusterModel, IsCluster, KeepsRules, ids_of}
+use Rattle.sw_ring.specs.Members.{RingMembers}
+use Rattle.sw_ring.specs.Ring.{duplicate_after, has_at, is_among, odd_row, ring_fault, rows_fault, twice_after, twice_in, unknown_device, unknown_in}
+use Rattle.sw_ring.specs.Rules.{KeepRules, column_at, device_ids, greatest_devices, greatest_part_power}
+use Rattle.sw_ring.proofs.Among.{Contains-from_among, among-from_Contains, same_number}
+use Rattle.sw_ring.proofs.Partition.{AreEven, has_at_among}
 
-both_none : {A : Type 0} (first later : Option A) → or_first first later ≡ None → (first ≡ None) × (later ≡ None)
+both_none : {A : Type 0} (first later : Option A) → option_or first later ≡ None → (first ≡ None) × (later ≡ None)
 both_none None later h = (refl, h)
 both_none (Some x) later h = cc
 
-nothing : {A : Type 0} (fault : A → RingFault) (found : Option A) → if_some fault found ≡ None → found ≡ None
+nothing : {A : Type 0} (fault : A → RingFault) (found : Option A) → option_map fault found ≡ None → found ≡ None
 nothing fault None h = refl
 nothing fault (Some x) h = cc
 
@@ -32,47 +35,14 @@ met : {A : Type 0} (test : Bool) (x : A) (later : Option A) → cond test later 
 met true x later h = (refl, h)
 met false x later h = cc
 
-pub record Keeps (f : Fields) : Type 0 where
-  pub part_power : f.part_power ≤ 16
-  pub policy : policy_fault f.policy ≡ None
-  pub few : length f.devices ≤ 64
-  pub ids : duplicate_after [] (ids_of f) ≡ None
-  pub rows : length f.rows ≡ f.policy.k + f.policy.m
-  pub places : odd_row 0 (2 ^ f.part_power) f.rows ≡ None
-  pub known : unknown_device (ids_of f) f.rows ≡ None
-  pub once : twice_after [] f.rows ≡ None
-
 not_above : (most n : ℕ) → nat_lt most n ≡ false → n ≤ most
 not_above most n h = grind (arith, nat_tests)
 
-same_number : (a b : ℕ) → (a == b) ≡ true → a ≡ b
-same_number a b h = grind (arith, nat_tests)
-
-pub keeps : (f : Fields) → ring_fault f ≡ None → Keeps f
-unfolding ring_fault rows_fault
-keeps f h =
-    let power = both_none _ _ h in
-    let policy = both_none _ _ power.1 in
-    let count = both_none _ _ policy.1 in
-    let ids = both_none _ _ count.1 in
-    let rows = both_none _ _ ids.1 in
-    let places = both_none _ _ rows.1 in
-    let known = both_none _ _ places.1 in
-    record {
-      part_power = not_above 16 f.part_power (not_found _ _ _ power.0).0;
-      policy = nothing _ _ policy.0;
-      few = not_above 64 (length f.devices) (not_found _ _ _ count.0).0;
-      ids = nothing _ _ ids.0;
-      rows = same_number (length f.rows) (f.policy.k + f.policy.m) (met _ _ _ rows.0).0;
-      places = nothing _ _ places.0;
-      known = nothing _ _ known.0;
-      once = nothing _ _ known.1;
-    }
-
-pub even_rows : (number places : ℕ) (rows : List (List ℕ)) → odd_row number places rows ≡ None → (i : ℕ) → i < length rows → length (get_or rows i []) ≡ places
-even_rows number places [] h i within = absurd (omega arith)
-even_rows number places (row ∷ rows) h zero within = same_number (length row) places (met (length row == places) number (odd_row (number + 1) places rows) h).0
-even_rows number places (row ∷ rows) h (suc i) within = even_rows (number + 1) places rows (met (length row == places) number (odd_row (number + 1) places rows) h).1 i (omega arith)
+even_rows : (number parts : ℕ) (rows : List (List ℕ)) → odd_row number parts rows ≡ None → AreEven parts rows
+even_rows number parts [] h = All-nil (λ row. length row ≡ parts)
+even_rows number parts (row ∷ rows) h =
+    let here = met (length row == parts) number (odd_row (number + 1) parts rows) h in
+    All-cons (λ row. length row ≡ parts) row rows (same_number (length row) parts here.0) (even_rows (number + 1) parts rows here.1)
 
 weaker : (earlier : List ℕ) (id : ℕ) (ids : List ℕ) → AllByRecursion (λ other. is_among (id ∷ earlier) other ≡ false) ids → AllByRecursion (λ other. is_among earlier other ≡ false) ids
 weaker earlier id [] h = tt
@@ -91,29 +61,22 @@ apart earlier (id ∷ ids) h =
     let later = apart (id ∷ earlier) ids here.1 in
     ((here.0, weaker earlier id ids later.0), (others earlier id ids later.0, later.1))
 
-pub distinct : (ids : List ℕ) → duplicate_after [] ids ≡ None → IsDistinct eqb ids
+distinct : (ids : List ℕ) → duplicate_after [] ids ≡ None → IsDistinct eqb ids
 distinct ids h = (apart [] ids h).1
 
--- ---- the devices of a partition
+-- ---- the devices of the rows
 
-row_known : (known row : List ℕ) → unknown_in known row ≡ None → (i : ℕ) → i < length row → is_among known (get_or row i 0) ≡ true
-row_known known [] h i within = absurd (omega arith)
-row_known known (id ∷ ids) h zero within = (met (is_among known id) id (unknown_in known ids) h).0
-row_known known (id ∷ ids) h (suc i) within = row_known known ids (met (is_among known id) id (unknown_in known ids) h).1 i (omega arith)
+row_known : (known row : List ℕ) → unknown_in known row ≡ None → All (Contains known) row
+row_known known [] h = All-nil (Contains known)
+row_known known (id ∷ ids) h =
+    let here = met (is_among known id) id (unknown_in known ids) h in
+    All-cons (Contains known) id ids (Contains-from_among known id here.0) (row_known known ids here.1)
 
-column_known : (known : List ℕ) (part places : ℕ) (rows : List (List ℕ)) → ((i : ℕ) → i < length rows → length (get_or rows i []) ≡ places) → part < places
-    → unknown_device known rows ≡ None → AllByRecursion (λ id. is_among known id ≡ true) (map (λ row. get_or row part 0) rows)
-column_known known part places [] even within h = tt
-column_known known part places (row ∷ rows) even within h =
+rows_known : (known : List ℕ) (rows : List (List ℕ)) → unknown_device known rows ≡ None → All (All (Contains known)) rows
+rows_known known [] h = All-nil (All (Contains known))
+rows_known known (row ∷ rows) h =
     let parts = both_none (unknown_in known row) (unknown_device known rows) h in
-    (row_known known row parts.0 part (omega (arith, even 0 (omega arith))), column_known known part places rows (λ i below. even (suc i) (omega arith)) within parts.1)
-
--- each device of a partition is one of the ring's, in whatever order those stand
-pub all_known : (ids sorted : List ℕ) (part places : ℕ) (rows : List (List ℕ)) → IsPermutation ids sorted → ((i : ℕ) → i < length rows → length (get_or rows i []) ≡ places) → part < places
-    → unknown_device ids rows ≡ None → All (λ id. is_among sorted id ≡ true) (map (λ row. get_or row part 0) rows)
-all_known ids sorted part places rows same even within h = λ i d below.
-    sym (list_any-IsPermutation (λ other. other == get_or (map (λ row. get_or row part 0) rows) i d) ids sorted same)
-    ∙ All-from_recursion (λ id. is_among ids id ≡ true) (map (λ row. get_or row part 0) rows) (column_known ids part places rows even within h) i d below
+    All-cons (All (Contains known)) row rows (row_known known row parts.0) (rows_known known rows parts.1)
 
 row_new : (start : ℕ) (earlier : List (List ℕ)) (row : List ℕ) → twice_in start earlier row ≡ None → (i : ℕ) → i < length row → has_at (start + i) (get_or row i 0) earlier ≡ false
 row_new start earlier [] h i within = absurd (omega arith)
@@ -123,43 +86,65 @@ row_new start earlier (id ∷ ids) h (suc i) within =
     let later = (not_found (has_at start id earlier) (record { part = start; id = id }) (twice_in (start + 1) earlier ids) h).1 in
     subst (λ part. has_at part (get_or ids i 0) earlier ≡ false) (omega arith) (row_new (start + 1) earlier ids later i (omega arith))
 
-abbrev AreEven : ℕ → List (List ℕ) → Type 0
-AreEven places rows = (i : ℕ) → i < length rows → length (get_or rows i []) ≡ places
+column_once : (part parts : ℕ) (earlier rows : List (List ℕ)) → AreEven parts earlier → AreEven parts rows → part < parts → twice_after earlier rows ≡ None
+    → duplicate_after (column_at part earlier) (column_at part rows) ≡ None
+column_once part parts earlier [] before even within h = refl
+column_once part parts earlier (row ∷ rows) before even within h =
+    let both = both_none (twice_in 0 earlier row) (twice_after (row ∷ earlier) rows) h in
+    let here : length row ≡ parts = even 0 [] (omega arith) in
+    let id : ℕ = slice_index row part in
+    let new : is_among (column_at part earlier) id ≡ false =
+    sym (has_at_among part id parts earlier before within) ∙ subst (λ at. has_at at id earlier ≡ false) (omega arith) (row_new 0 earlier row both.0 part (omega (arith, here))) in
+    ap (λ b. cond b (Some id) (duplicate_after (id ∷ column_at part earlier) (column_at part rows))) new
+    ∙ column_once part parts (row ∷ earlier) rows (All-cons (λ row. length row ≡ parts) row earlier here before) (All-tail (λ row. length row ≡ parts) row rows even) within both.1
 
-one_more : (places : ℕ) (row : List ℕ) (rows : List (List ℕ)) → length row ≡ places → AreEven places rows → AreEven places (row ∷ rows)
-one_more places row rows here even zero within = here
-one_more places row rows here even (suc i) within = even i (omega arith)
+-- no two ids of a list are the same where none is found twice
+apart_from : (ids : List ℕ) → duplicate_after [] ids ≡ None → AllPairs (λ one other. one ≢ other) ids
+apart_from ids h = AllPairs-from_IsDistinct Decides-eqb ids (distinct ids h)
 
-column_once : (part places : ℕ) (earlier rows : List (List ℕ)) → AreEven places earlier → AreEven places rows → part < places → twice_after earlier rows ≡ None
-    → duplicate_after (map (λ row. get_or row part 0) earlier) (map (λ row. get_or row part 0) rows) ≡ None
-column_once part places earlier [] before even within h = refl
-column_once part places earlier (row ∷ rows) before even within h =
-    let parts = both_none (twice_in 0 earlier row) (twice_after (row ∷ earlier) rows) h in
-    let here : length row ≡ places = even 0 (omega arith) in
-    let new : is_among (map (λ row. get_or row part 0) earlier) (get_or row part 0) ≡ false =
-    sym (has_at_among part (get_or row part 0) places earlier before within) ∙ subst (λ at. has_at at (get_or row part 0) earlier ≡ false) (omega arith) (row_new 0 earlier row parts.0 part (omega (arith, here))) in
-    ap (λ b. cond b (Some (get_or row part 0)) (duplicate_after (get_or row part 0 ∷ map (λ row. get_or row part 0) earlier) (map (λ row. get_or row part 0) rows))) new
-    ∙ column_once part places (row ∷ earlier) rows (one_more places row earlier here before) (λ i below. even (suc i) (omega arith)) within parts.1
+-- members that break no rule keep each
+pub sound : (members : RingMembers) → ring_fault members ≡ None → KeepRules members
+unfolding ring_fault rows_fault
+sound members h =
+    let power = both_none _ _ h in
+    let policy = both_none _ _ power.1 in
+    let count = both_none _ _ policy.1 in
+    let ids = both_none _ _ count.1 in
+    let rows = both_none _ _ ids.1 in
+    let odd = both_none _ _ rows.1 in
+    let known = both_none _ _ odd.1 in
+    let even = even_rows 0 (2 ^ members.part_power) members.rows (nothing _ _ odd.0) in
+    record {
+      part_power = not_above greatest_part_power members.part_power (not_found _ _ _ power.0).0;
+      policy = nothing _ _ policy.0;
+      few = not_above greatest_devices (length members.devices) (not_found _ _ _ count.0).0;
+      once = apart_from (device_ids members.devices) (nothing _ _ ids.0);
+      rows = same_number (length members.rows) (members.policy.k + members.policy.m) (met _ _ _ rows.0).0;
+      lengths = even;
+      known = rows_known (device_ids members.devices) members.rows (nothing _ _ known.0);
+      apart = λ part within. apart_from _ (column_once part (2 ^ members.part_power) [] members.rows (All-nil _) even within (nothing _ _ known.1));
+    }
 
--- no two devices of a partition are the same
-pub all_apart : (part places : ℕ) (rows : List (List ℕ)) → AreEven places rows → part < places → twice_after [] rows ≡ None
-    → AllPairs (λ one other. one ≢ other) (map (λ row. get_or row part 0) rows)
-all_apart part places rows even within h =
-    AllPairs-from_IsDistinct Decides-eqb (map (λ row. get_or row part 0) rows) (distinct _ (column_once part places [] rows (λ i below. absurd (omega arith)) even within h))
+-- ---- the cluster of such members
 
--- members that break no rule, with the devices in their order
-pub rules_kept : (fields cluster : Fields) → ring_fault fields ≡ None → IsCluster fields cluster → KeepsRules cluster
-rules_kept fields cluster h is =
-    let kept = keeps fields h in
-    let even = even_rows 0 (2 ^ fields.part_power) fields.rows kept.places in
-    let same : IsPermutation (ids_of fields) (ids_of cluster) = IsPermutation-map (λ (device : DeviceNumbers). device.id) fields.devices cluster.devices is.devices in
+-- each device of a partition is one of the ring's, in whatever order those stand
+column_known : (ids sorted : List ℕ) (part parts : ℕ) (rows : List (List ℕ)) → IsPermutation ids sorted → AreEven parts rows → part < parts → All (All (Contains ids)) rows
+    → All (λ id. is_among sorted id ≡ true) (column_at part rows)
+column_known ids sorted part parts rows same even within known =
+    All-map (λ id. is_among sorted id ≡ true) (λ row. slice_index row part) rows (λ i d below.
+    sym (list_any-IsPermutation (λ other. other == slice_index (get_or rows i d) part) ids sorted same)
+    ∙ among-from_Contains ids (slice_index (get_or rows i d) part) (known i d below part 0 (omega (arith, even i d below))))
+
+pub rules_kept : (members : RingMembers) (cluster : ClusterModel) → KeepRules members → IsCluster members cluster → KeepsRules cluster
+rules_kept members cluster kept is =
+    let same : IsPermutation (device_ids members.devices) (ids_of cluster) = IsPermutation-map (λ (device : Device). device.id) members.devices cluster.devices is.devices in
     record {
       part_power = rw is.part_power kept.part_power;
       policy = rw is.policy kept.policy;
-      devices = omega (arith, length_permutation fields.devices cluster.devices is.devices, kept.few);
+      few = omega (arith, length_permutation members.devices cluster.devices is.devices, kept.few);
       ascending = is.ascending;
       rows = rw (is.rows, is.policy) kept.rows;
-      places = rw (is.rows, is.part_power) even;
-      known = rw (is.rows, is.part_power) (λ part within. all_known (ids_of fields) (ids_of cluster) part (2 ^ fields.part_power) fields.rows same even within kept.known);
-      apart = rw (is.rows, is.part_power) (λ part within. all_apart part (2 ^ fields.part_power) fields.rows even within kept.once);
+      lengths = rw (is.rows, is.part_power) kept.lengths;
+      known = rw (is.rows, is.part_power) (λ part within. column_known (device_ids members.devices) (ids_of cluster) part (2 ^ members.part_power) members.rows same kept.lengths within kept.known);
+      apart = rw (is.rows, is.part_power) kept.apart;
     }

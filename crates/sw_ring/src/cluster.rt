@@ -1,27 +1,23 @@
 //! A cluster, and what it says of its partitions.
 
-ghost use Rattle.std.specs.Prelude.{◌≡◌, ◌⊎◌, ◌+◌, ◌^◌, ◌<◌, ◌≤◌, ◌==◌, None, Ok, Err, IfErr, IfOk, map, position, slice_index};
+ghost use Rattle.std.specs.Prelude.{◌≡◌, ◌+◌, ◌^◌, ◌<◌, ◌≤◌, ◌==◌, None, Ok, Err, IfErr, IfOk, position, slice_index};
+ghost use Rattle.sw_hashpath.specs.Place.{IsPlace};
+ghost use Rattle.sw_words.specs.Memory.{UnlessMemory};
 ghost use Rattle.sw_ring.specs.Cluster.{IsCluster, KeepsRules, column_of, handoffs_of, place_of_name, ring_of};
-ghost use Rattle.sw_ring.specs.Fields.{Fields};
+ghost use Rattle.sw_ring.specs.Members.{RingMembers};
 ghost use Rattle.sw_ring.specs.Reading.{members_seen, policy_numbers};
 ghost use Rattle.sw_ring.specs.Ring.{ring_fault};
 
-use crate::columns::{absent, index_in, place_in};
+use crate::columns::{absent, device_at, index_in};
+use crate::device::Device;
 use crate::fault::RingFault;
 use crate::reading::{Members, read_members};
-use crate::rules::check;
+use crate::rules::checked_policy;
 use crate::sorting::sort_by_id;
 use std::alloc::Global;
 use std::marker::Model;
 use sw_hashpath::{Place, place_name};
 use sw_types::{Name, NoMemory, Policy};
-
-/// A device, and how many bytes its disk has.
-#[derive(Clone, Copy, Debug)]
-pub struct Device {
-    pub id: u16,
-    pub capacity: u64,
-}
 
 /// What a ring's text says, where it breaks no rule.
 #[derive(Debug, Drop)]
@@ -35,11 +31,10 @@ pub struct Cluster {
 }
 
 impl Model for Cluster {
-    ghost use Rattle.sw_ring.specs.Fields.{Fields};
+    ghost use Rattle.sw_ring.specs.Cluster.{ClusterModel, KeepsRules};
 
-    ghost Value = { Fields };
+    ghost Value = { ClusterModel };
 
-    ghost use Rattle.sw_ring.specs.Cluster.{KeepsRules};
     ghost use Rattle.sw_ring.specs.Inside.{cluster_seen};
 
     ghost view = { cluster_seen };
@@ -48,13 +43,20 @@ impl Model for Cluster {
 }
 
 impl Cluster {
+    /// There are at most two to this power of partitions.
+    pub const GREATEST_PART_POWER: u32 = 16;
+
+    /// The greatest number of devices.
+    pub const GREATEST_DEVICES: usize = 64;
+
     /// The cluster that a ring's text describes, or the first rule that the text breaks.
     pub fn read(alloc: Global, text: &[u8]) -> Result<Cluster, RingFault>
-        ensures read { IfOk result (λ cluster. (fields : Fields) × (ring_of text.now ≡ Ok fields) × IsCluster fields cluster) }
-        ensures fault { IfErr result (λ fault. (fault ≡ RingFault.NoMemory) ⊎ (ring_of text.now ≡ Err fault)) }
+        ensures read { IfOk result (λ cluster. (members : RingMembers) × (ring_of text.now ≡ Ok members) × IsCluster members cluster) }
+        ensures rules { IfOk result KeepsRules }
+        ensures fault { IfErr result (λ fault. UnlessMemory RingFault.NoMemory fault (ring_of text.now ≡ Err fault)) }
     {
         let members = read_members(alloc, text)?;
-        let policy = check(alloc, &members)?;
+        let policy = checked_policy(alloc, &members)?;
         Ok(Cluster::from_members(members, policy))
     }
 
@@ -91,7 +93,7 @@ impl Cluster {
 
     /// The devices, in ascending order of their ids.
     pub fn devices(&self) -> &[Device]
-        ensures listed { map (λ device. record { id = device.id; capacity = device.capacity }) result.now ≡ self.now.devices }
+        ensures listed { result.now ≡ self.now.devices }
         ensures rules { KeepsRules self.now }
     {
         &self.devices
@@ -110,7 +112,7 @@ impl Cluster {
         requires index { index < self.now.policy.k + self.now.policy.m }
         ensures { result ≡ slice_index (column_of self.now part) index }
     {
-        place_in(&self.rows, part as usize, index as usize)
+        device_at(&self.rows, part as usize, index as usize)
     }
 
     /// The index whose fragments of a partition the device keeps: none where it keeps none, or there is no such partition.
@@ -118,10 +120,8 @@ impl Cluster {
         ensures index { part < 2 ^ self.now.part_power → result ≡ position (λ id. id == device) (column_of self.now part) }
         ensures no_part { 2 ^ self.now.part_power ≤ part → result ≡ None }
     {
-        match index_in(&self.rows, part as usize, device) {
-            Some(index) => Some(index as u32),
-            None => None,
-        }
+        let index = index_in(&self.rows, part as usize, device)?;
+        Some(index as u32)
     }
 
     /// The devices that are no primaries of a partition, in ascending order.
@@ -135,6 +135,7 @@ impl Cluster {
     /// The place of a name.
     pub fn place(&self, alloc: Global, name: &Name) -> Result<Place, NoMemory>
         ensures place { IfOk result (λ place. place ≡ place_of_name self.now name.now) }
+        ensures right { IfOk result (λ place. IsPlace self.now.part_power place) }
         ensures below { IfOk result (λ place. place.part < 2 ^ self.now.part_power) }
     {
         let prefix = self.prefix.as_bytes();

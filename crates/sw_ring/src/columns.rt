@@ -1,19 +1,19 @@
-//! The devices of a partition: the places of the rows under its number.
+//! The devices of a partition: those that the rows have at its number.
 
 ghost use Rattle.std.specs.Prelude.{◌≡◌, ◌<◌, [], filter, map, not, position, IfOk, length, slice_get, slice_index, slice_index_or};
-ghost use Rattle.sw_ring.specs.Reading.{device_numbers};
 ghost use Rattle.sw_ring.specs.Ring.{has_at, option_is};
+ghost use Rattle.sw_ring.specs.Rules.{column_at, device_ids};
 
-use crate::cluster::Device;
+use crate::device::Device;
 use crate::rules::{has_at, is_at};
 use std::alloc::Global;
 use sw_types::NoMemory;
 
 /// The device of a row at a partition.
-pub(crate) fn place_in(rows: &[Vec<u16>], part: usize, index: usize) -> u16
+pub(crate) fn device_at(rows: &[Vec<u16>], part: usize, index: usize) -> u16
     requires index { index < length rows.now }
     requires part { part < length (slice_index_or (map (λ row. row.items) rows.now) index []) }
-    ensures { result ≡ slice_index (map (λ row. slice_index row part) (map (λ row. row.items) rows.now)) index }
+    ensures { result ≡ slice_index (column_at part (map (λ row. row.items) rows.now)) index }
 {
     rows[index][part]
 }
@@ -32,7 +32,7 @@ pub(crate) fn absent(
     rows: &[Vec<u16>],
     part: usize,
 ) -> Result<Vec<u16>, NoMemory>
-    ensures { IfOk result (λ ids. ids.items ≡ filter (λ id. not (has_at part id (map (λ row. row.items) rows.now))) (map (λ device. device.id) (map device_numbers devices.now))) }
+    ensures { IfOk result (λ ids. ids.items ≡ filter (λ id. not (has_at part id (map (λ row. row.items) rows.now))) (device_ids devices.now)) }
 {
     let ids = devices
         .iter()

@@ -1,7 +1,7 @@
 //! What is wrong with a ring's text.
 
 ghost use Rattle.std.specs.Prelude.{◌≡◌};
-ghost use Rattle.sw_ring.specs.declared.fault.RingFault.TheVariants.{NoMemory as WantOfMemory};
+ghost use Rattle.sw_ring.specs.declared.fault.RingFault.TheVariants.{NoMemory as WantOfMemory, Policy as BrokenPolicy};
 
 use std::alloc::{AllocError, AllocFailed};
 use sw_types::{NoMemory, PolicyFault};
@@ -61,11 +61,11 @@ pub enum RingFault {
 }
 
 impl RingFault {
-    ghost use Rattle.sw_ring.specs.Numbered.{number_of};
+    ghost use Rattle.sw_ring.specs.Numbered.{ring_fault_number};
 
     /// The number by which an answer names this fault: 0 for want of memory, and 1 to 10 for what is wrong with the text.
     pub fn number(&self) -> u8
-        ensures { result ≡ number_of self.now }
+        ensures { result ≡ ring_fault_number self.now }
     {
         match self {
             RingFault::NoMemory => 0,
@@ -80,6 +80,14 @@ impl RingFault {
             RingFault::TooManyDevices(_) => 9,
             RingFault::DuplicateDevice(_) => 10,
         }
+    }
+}
+
+impl From<PolicyFault> for RingFault {
+    ghost from_gives = { λ fault broken. broken ≡ BrokenPolicy fault };
+
+    fn from(fault: PolicyFault) -> RingFault {
+        RingFault::Policy(fault)
     }
 }
 

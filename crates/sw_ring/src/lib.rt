@@ -6,15 +6,19 @@ ghost use Rattle.sw_ring.specs.BuiltIn.{built_in};
 
 mod cluster;
 mod columns;
+mod device;
 mod fault;
+mod laws;
 mod lists;
 mod members;
 mod reading;
 mod rules;
 mod sorting;
 
-pub use crate::cluster::{Cluster, Device};
+pub use crate::cluster::Cluster;
+pub use crate::device::Device;
 pub use crate::fault::{Member, RingFault};
+pub use crate::laws::{limits_law, rules_law};
 
 /// The text of the built-in ring: four devices, of which three keep the fragments of the only partition, with k = 2, m = 1,
 /// q = 3 and c = 2.

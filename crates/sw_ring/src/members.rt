@@ -3,13 +3,16 @@
 ghost use Rattle.std.specs.Prelude.{◌≡◌, ◌+◌, ◌≤◌, ◌^◌, [], codes, IfSome, MatchResult, Err, Ok, option_map, string_bytes};
 ghost use Rattle.serde_json.specs.Find.{get_member};
 ghost use Rattle.serde_json.specs.View.{members_view, view};
-ghost use Rattle.sw_ring.specs.Fields.{field, optional, policy_by, required, short_text, whole_below};
+ghost use Rattle.sw_ring.specs.Members.{field, optional, policy_by, required, short_text, whole_below};
 ghost use Rattle.sw_ring.specs.Reading.{Gives, policy_numbers};
 ghost use Rattle.sw_ring.specs.declared.fault.Member.TheVariants as name;
 
 use crate::fault::{Member, RingFault};
 use serde_json::{Map, Value};
 use std::alloc::Global;
+
+// The bytes of a segment where the ring names none.
+const USUAL_SEGMENT: u32 = 1_048_576;
 
 /// The numbers of a policy, whether or not they keep its bounds.
 #[derive(Clone, Copy, Debug)]
@@ -67,10 +70,8 @@ pub(crate) fn optional_whole(
 fn required_u32(members: &Map<String, Value>, name: &str, named: Member) -> Result<u32, RingFault>
     ensures { result ≡ field named (required (whole_below (2 ^ 32)) (get_member name.now (members_view members.now.entries))) }
 {
-    match required_whole(members, name, u64::from(u32::MAX)) {
-        Some(number) => Ok(number as u32),
-        None => Err(RingFault::Field(named)),
-    }
+    let number = required_whole(members, name, u64::from(u32::MAX)).ok_or(RingFault::Field(named))?;
+    Ok(number as u32)
 }
 
 fn optional_u32(
@@ -81,24 +82,21 @@ fn optional_u32(
 ) -> Result<u32, RingFault>
     ensures { result ≡ field named (optional default (whole_below (2 ^ 32)) (get_member name.now (members_view members.now.entries))) }
 {
-    match optional_whole(members, name, u64::from(u32::MAX), u64::from(default)) {
-        Some(number) => Ok(number as u32),
-        None => Err(RingFault::Field(named)),
-    }
+    let number = optional_whole(members, name, u64::from(u32::MAX), u64::from(default)).ok_or(
+        RingFault::Field(named),
+    )?;
+    Ok(number as u32)
 }
 
 /// The power of two that gives the number of partitions.
 pub(crate) fn part_power(members: &Map<String, Value>) -> Result<u64, RingFault>
     ensures { result ≡ field name.PartPower (required (whole_below (2 ^ 64)) (get_member (codes "part_power") (members_view members.now.entries))) }
 {
-    match required_whole(members, "part_power", u64::MAX) {
-        Some(number) => Ok(number),
-        None => Err(RingFault::Field(Member::PartPower)),
-    }
+    required_whole(members, "part_power", u64::MAX).ok_or(RingFault::Field(Member::PartPower))
 }
 
 /// The numbers of the policy.
-#[tactic(auto, unfolding(crate::specs::Fields::policy_by))]
+#[tactic(auto, unfolding(crate::specs::Members::policy_by))]
 pub(crate) fn numbers(members: &Map<String, Value>) -> Result<PolicyNumbers, RingFault>
     ensures { MatchResult result
         (λ numbers. policy_by (members_view members.now.entries) ≡ Ok (policy_numbers numbers))
@@ -108,7 +106,7 @@ pub(crate) fn numbers(members: &Map<String, Value>) -> Result<PolicyNumbers, Rin
     let m = required_u32(members, "m", Member::M)?;
     let q = optional_u32(members, "q", Member::Q, k.saturating_add(1))?;
     let c = optional_u32(members, "c", Member::C, q)?;
-    let segment = optional_u32(members, "segment", Member::Segment, 1_048_576)?;
+    let segment = optional_u32(members, "segment", Member::Segment, USUAL_SEGMENT)?;
     Ok(PolicyNumbers {
         k,
         m,
@@ -135,11 +133,9 @@ pub(crate) fn text(
 ) -> Result<String, RingFault>
     ensures { Gives string_bytes result (field named (optional [] short_text (get_member name.now (members_view members.now.entries)))) }
 {
-    match member(members, name) {
-        None => Ok(String::new(alloc)),
-        Some(value) => match short_text(value) {
-            Some(text) => Ok(String::from_str(alloc, text)?),
-            None => Err(RingFault::Field(named)),
-        },
-    }
+    let Some(value) = member(members, name) else {
+        return Ok(String::new(alloc));
+    };
+    let text = short_text(value).ok_or(RingFault::Field(named))?;
+    Ok(String::from_str(alloc, text)?)
 }

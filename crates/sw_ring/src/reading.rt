@@ -3,12 +3,13 @@
 ghost use Rattle.std.specs.Prelude.{◌≡◌, Some, None, MatchOption, true, false};
 ghost use Rattle.serde_json.specs.View.{members_view, view};
 ghost use Rattle.std.specs.Str.{is_utf8};
-ghost use Rattle.sw_ring.specs.Cluster.{fields_in, json_of};
-ghost use Rattle.sw_ring.specs.Fields.{fields_by, fields_of};
+ghost use Rattle.sw_ring.specs.Cluster.{members_in};
+ghost use Rattle.sw_ring.specs.Members.{members_by, members_of};
+ghost use Rattle.std.specs.Option.{ok_or};
 ghost use Rattle.sw_ring.specs.Reading.{Gives, members_seen};
 ghost use Rattle.serde_json.specs.Read.{read as read_text};
 
-use crate::cluster::Device;
+use crate::device::Device;
 use crate::fault::{Member, RingFault};
 use crate::lists::{devices, rows};
 use crate::members::{PolicyNumbers, numbers, part_power, text};
@@ -26,9 +27,9 @@ pub(crate) struct Members {
     pub(crate) rows: Vec<Vec<u16>>,
 }
 
-#[tactic(auto, unfolding(crate::specs::Fields::fields_by))]
+#[tactic(auto, unfolding(crate::specs::Members::members_by))]
 fn read_object(alloc: Global, members: &Map<String, Value>) -> Result<Members, RingFault>
-    ensures { Gives members_seen result (fields_by (members_view members.now.entries)) }
+    ensures { Gives members_seen result (members_by (members_view members.now.entries)) }
 {
     let part_power = part_power(members)?;
     let prefix = text(alloc, members, "hash_prefix", Member::HashPrefix)?;
@@ -47,7 +48,7 @@ fn read_object(alloc: Global, members: &Map<String, Value>) -> Result<Members, R
 }
 
 fn read_value(alloc: Global, value: &Value) -> Result<Members, RingFault>
-    ensures { Gives members_seen result (fields_of (view value.now)) }
+    ensures { Gives members_seen result (members_of (view value.now)) }
 {
     match value.as_object() {
         Some(members) => read_object(alloc, members),
@@ -57,7 +58,7 @@ fn read_value(alloc: Global, value: &Value) -> Result<Members, RingFault>
 
 // The value of a JSON text.
 fn parse(alloc: Global, text: &str) -> Result<Value, RingFault>
-    ensures { Gives view result (json_of (read_text text.now)) }
+    ensures { Gives view result (ok_or (read_text text.now) RingFault.NotJson) }
 {
     match Value::from_str(alloc, text) {
         Ok(value) => Ok(value),
@@ -78,7 +79,7 @@ fn text_of(bytes: &[u8]) -> Option<&str>
 
 /// What the members of a ring's text say.
 pub(crate) fn read_members(alloc: Global, text: &[u8]) -> Result<Members, RingFault>
-    ensures { Gives members_seen result (fields_in text.now) }
+    ensures { Gives members_seen result (members_in text.now) }
 {
     let Some(text) = text_of(text) else {
         return Err(RingFault::NotJson);

@@ -1,11 +1,14 @@
 //! The rules of a ring: which of them its rows and its devices break.
 
-ghost use Rattle.std.specs.Prelude.{◌≡◌, ◌+◌, ◌⊎◌, [], map, IfOk, MatchResult, None, Some, option_map, slice_get};
+ghost use Rattle.std.specs.Prelude.{◌≡◌, ◌+◌, [], map, IfOk, MatchResult, None, Some, option_map, slice_get};
 ghost use Rattle.sw_types.specs.Policy.{policy_fault};
-ghost use Rattle.sw_ring.specs.Reading.{device_numbers, members_seen, policy_numbers};
+ghost use Rattle.sw_words.specs.Memory.{UnlessMemory};
+ghost use Rattle.sw_ring.specs.Reading.{members_seen, policy_numbers};
+ghost use Rattle.sw_ring.specs.Rules.{device_ids};
 ghost use Rattle.sw_ring.specs.Ring.{duplicate_after, has_at, odd_row, option_is, ring_fault, rows_fault, twice_after, twice_in, unknown_device, unknown_in};
 
-use crate::cluster::Device;
+use crate::cluster::Cluster;
+use crate::device::Device;
 use crate::fault::RingFault;
 use crate::members::PolicyNumbers;
 use crate::reading::Members;
@@ -25,12 +28,12 @@ pub(crate) fn duplicate(ids: &[u16]) -> Option<u16>
     None
 }
 
-// The first row that hasn't so many places.
-fn odd_row(rows: &[Vec<u16>], places: usize) -> Option<usize>
-    ensures { result ≡ odd_row 0 places (map (λ row. row.items) rows.now) }
+// The first row that hasn't a device for each of so many partitions.
+fn odd_row(rows: &[Vec<u16>], parts: usize) -> Option<usize>
+    ensures { result ≡ odd_row 0 parts (map (λ row. row.items) rows.now) }
 {
     for (number, row) in rows.iter().enumerate() {
-        if row.len() != places {
+        if row.len() != parts {
             return Some(number);
         }
     }
@@ -92,7 +95,7 @@ fn twice_in(earlier: &[Vec<u16>], row: &[u16]) -> Option<(usize, u16)>
     None
 }
 
-// The first place, row after row, whose device an earlier row has in the same partition.
+// The first device, row after row, that an earlier row has in the same partition, and the partition.
 fn twice(rows: &[Vec<u16>]) -> Option<(usize, u16)>
     ensures { option_map (λ twice. record { part = twice.0; id = twice.1 }) result ≡ twice_after [] (map (λ row. row.items) rows.now) }
 {
@@ -110,29 +113,27 @@ fn twice(rows: &[Vec<u16>]) -> Option<(usize, u16)>
 pub(crate) fn rows_fault(
     ids: &[u16],
     total: usize,
-    places: usize,
+    parts: usize,
     rows: &[Vec<u16>],
 ) -> Option<RingFault>
-    ensures { result ≡ rows_fault ids.now total places (map (λ row. row.items) rows.now) }
+    ensures { result ≡ rows_fault ids.now total parts (map (λ row. row.items) rows.now) }
 {
     if rows.len() != total {
         return Some(RingFault::RowCount(rows.len()));
     }
-    if let Some(number) = odd_row(rows, places) {
+    if let Some(number) = odd_row(rows, parts) {
         return Some(RingFault::RowLength(number));
     }
     if let Some(id) = unknown_device(ids, rows) {
         return Some(RingFault::UnknownDevice(id));
     }
-    match twice(rows) {
-        Some((part, id)) => Some(RingFault::SameDeviceTwice(part, id)),
-        None => None,
-    }
+    let (part, id) = twice(rows)?;
+    Some(RingFault::SameDeviceTwice(part, id))
 }
 
 // The ids of devices, in their order.
 fn ids(alloc: Global, devices: &[Device]) -> Result<Vec<u16>, NoMemory>
-    ensures { IfOk result (λ ids. ids.items ≡ map (λ device. device.id) (map device_numbers devices.now)) }
+    ensures { IfOk result (λ ids. ids.items ≡ device_ids devices.now) }
 {
     let ids = devices.iter().map(|device| device.id).collect(alloc)?;
     Ok(ids)
@@ -148,19 +149,16 @@ fn policy_of(numbers: &PolicyNumbers) -> Result<Policy, PolicyFault>
 
 /// The policy of members that break no rule, or the first rule that they break.
 #[tactic(auto, unfolding(crate::specs::Ring::ring_fault))]
-pub(crate) fn check(alloc: Global, members: &Members) -> Result<Policy, RingFault>
+pub(crate) fn checked_policy(alloc: Global, members: &Members) -> Result<Policy, RingFault>
     ensures { MatchResult result
         (λ policy. (ring_fault (members_seen members.now) ≡ None) × (policy ≡ policy_numbers members.now.numbers))
-        (λ fault. (fault ≡ RingFault.NoMemory) ⊎ (ring_fault (members_seen members.now) ≡ Some fault)) }
+        (λ fault. UnlessMemory RingFault.NoMemory fault (ring_fault (members_seen members.now) ≡ Some fault)) }
 {
-    if members.part_power > 16 {
+    if members.part_power > u64::from(Cluster::GREATEST_PART_POWER) {
         return Err(RingFault::PartPower(members.part_power));
     }
-    let policy = match policy_of(&members.numbers) {
-        Ok(policy) => policy,
-        Err(fault) => return Err(RingFault::Policy(fault)),
-    };
-    if members.devices.len() > 64 {
+    let policy = policy_of(&members.numbers)?;
+    if members.devices.len() > Cluster::GREATEST_DEVICES {
         return Err(RingFault::TooManyDevices(members.devices.len()));
     }
     let ids = ids(alloc, &members.devices)?;

@@ -4,7 +4,7 @@ use crate::RingFault::{
     DuplicateDevice, Field, NotJson, PartPower, Policy, RowCount, RowLength, SameDeviceTwice,
     TooManyDevices, UnknownDevice,
 };
-use crate::{Cluster, Member, RingFault, built_in};
+use crate::{Cluster, Device, Member, RingFault, built_in};
 use std::alloc::{AllocError, Global};
 use std::process::Abort;
 use std::test::Fail;
@@ -26,26 +26,12 @@ fn reads_the_built_in_text(rt: HostRuntime) -> Result<(), Fail> {
     assert_eq!(rt; cluster.index_of(0, 2), Some(2));
     assert_eq!(rt; cluster.index_of(0, 3), None);
     assert_eq!(rt; cluster.index_of(1, 2), None);
-    has_devices(
-        &rt,
-        &cluster,
-        &[
-            (0, 1_073_741_824),
-            (1, 1_073_741_824),
-            (2, 1_073_741_824),
-            (3, 1_073_741_824),
-        ],
-    );
+    let devices = [0, 1, 2, 3].map(|id| Device {
+        id,
+        capacity: 1_073_741_824,
+    });
+    assert_eq!(rt; cluster.devices(), devices.as_slice());
     Ok(())
-}
-
-fn has_devices(rt: &impl Abort, cluster: &Cluster, want: &[(u16, u64)]) {
-    let devices = cluster.devices();
-    assert_eq!(rt; devices.len(), want.len());
-    for (device, (id, capacity)) in devices.iter().zip(want) {
-        assert_eq!(rt; device.id, *id);
-        assert_eq!(rt; device.capacity, *capacity);
-    }
 }
 
 #[test]
@@ -53,7 +39,12 @@ fn sorts_the_devices_and_takes_the_usual_numbers(rt: HostRuntime) -> Result<(), 
     let text =
         br#"{"part_power":0,"k":1,"m":1,"devices":[{"id":9},{"id":5,"capacity":7}],"rows":[[9],[5]]}"#;
     let cluster = Cluster::read(rt.alloc(), text)?;
-    has_devices(&rt, &cluster, &[(5, 7), (9, 1_073_741_824)]);
+    let small = Device { id: 5, capacity: 7 };
+    let usual = Device {
+        id: 9,
+        capacity: 1_073_741_824,
+    };
+    assert_eq!(rt; cluster.devices(), [small, usual].as_slice());
     let policy = cluster.policy();
     assert_eq!(rt;
         (policy.q(), policy.c(), policy.segment()),

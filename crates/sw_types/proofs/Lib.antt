@@ -3,4 +3,5 @@ mod Digits
 mod DigitsRead
 pub mod HexTexts
 pub mod Names
+mod Pairs
 pub mod Policies

@@ -1,7 +1,7 @@
 -- Equality of names.
 use Rattle.std.proofs.Common.{◌≡◌, ℕ, ◌&&◌, Bool, true, false, nat_eq, List, [], ◌∷◌, refl, ap, ◌∙◌, eq-eqb, eqb-true}
 use Rattle.std.specs.Cmp.Lexicographic.{pointwise}
-use Rattle.sw_types.specs.Name.{Parts, name_eq}
+use Rattle.sw_types.specs.Name.{NameModel, name_eq}
 
 both : (a b : Bool) → (a && b) ≡ true → (a ≡ true) × (b ≡ true)
 both true b h = (refl, h)
@@ -22,7 +22,7 @@ pointwise-same [] = refl
 pointwise-same (x ∷ xs) = ap (λ b. b && pointwise nat_eq xs xs) (eq-eqb x x refl) ∙ pointwise-same xs
 
 -- names that are equal have the same parts
-pub name_eq-true : (a b : Parts) → name_eq a b ≡ true → a ≡ b
+pub name_eq-true : (a b : NameModel) → name_eq a b ≡ true → a ≡ b
 name_eq-true a b h =
     let first = both (pointwise nat_eq a.account b.account) (pointwise nat_eq a.container b.container && pointwise nat_eq a.object b.object) h in
     let others = both (pointwise nat_eq a.container b.container) (pointwise nat_eq a.object b.object) first.1 in
@@ -34,7 +34,7 @@ name_eq-true a b h =
     ∙ ap (λ (part : List ℕ). record { account = b.account; container = b.container; object = part }) object
 
 -- a name equals itself
-pub name_eq-same : (a : Parts) → name_eq a a ≡ true
+pub name_eq-same : (a : NameModel) → name_eq a a ≡ true
 name_eq-same a =
     ap (λ b. b && (pointwise nat_eq a.container a.container && pointwise nat_eq a.object a.object)) (pointwise-same a.account)
     ∙ ap (λ b. b && pointwise nat_eq a.object a.object) (pointwise-same a.container) ∙ pointwise-same a.object

@@ -2,6 +2,7 @@
 use Rattle.std.specs.Prelude.{ℕ, ◌==◌, Bool, true, false, not, ◌&&◌, if◌then◌else◌, nat_eq, nat_lt, List, ◌∷◌, ◌++◌, length, Option, Some, None}
 use Rattle.std.specs.Cmp.Lexicographic.{pointwise}
 use Rattle.std.specs.List.{list_any}
+use Rattle.std.specs.Option.{option_or}
 use Rattle.std.specs.Str.{is_utf8}
 use Rattle.sw_types.specs.declared.name.Part.{Part}
 use Rattle.sw_types.specs.declared.name.Part.TheVariants.{Account, Container, Object}
@@ -9,13 +10,13 @@ use Rattle.sw_types.specs.declared.name.NameFault.{NameFault}
 use Rattle.sw_types.specs.declared.name.NameFault.TheVariants.{Empty, TooLong, NotUtf8, Nul, Slash}
 
 -- the bytes of the three parts
-pub record Parts : Type 0 where
+pub record NameModel : Type 0 where
   pub account : List ℕ
   pub container : List ℕ
   pub object : List ℕ
 
 -- whether two names have the same parts
-abbrev pub name_eq : Parts → Parts → Bool
+abbrev pub name_eq : NameModel → NameModel → Bool
 name_eq a b = pointwise nat_eq a.account b.account && (pointwise nat_eq a.container b.container && pointwise nat_eq a.object b.object)
 
 -- the greatest number of bytes of a part
@@ -40,15 +41,11 @@ part_fault part text =
     else if not (may_hold_slash part) && list_any (λ byte. byte == 47) text then Some (Slash part)
     else None
 
-abbrev pub or_else : Option NameFault → Option NameFault → Option NameFault
-or_else (Some fault) other = Some fault
-or_else None other = other
-
 -- the first fault of the parts of a name, in their order
-abbrev pub name_fault : Parts → Option NameFault
-name_fault parts = or_else (part_fault Account parts.account)
-    (or_else (part_fault Container parts.container) (part_fault Object parts.object))
+abbrev pub name_fault : NameModel → Option NameFault
+name_fault parts = option_or (part_fault Account parts.account)
+    (option_or (part_fault Container parts.container) (part_fault Object parts.object))
 
 -- the parts, each behind a slash
-abbrev pub path_of : Parts → List ℕ
+abbrev pub path_of : NameModel → List ℕ
 path_of parts = 47 ∷ parts.account ++ 47 ∷ parts.container ++ 47 ∷ parts.object

@@ -4,7 +4,7 @@ use Rattle.sw_types.specs.declared.policy.PolicyFault.{PolicyFault}
 use Rattle.sw_types.specs.declared.policy.PolicyFault.TheVariants.{K, M, N, Q, C, Segment}
 
 -- the numbers of a policy
-pub record Numbers : Type 0 where
+pub record PolicyModel : Type 0 where
   pub k : ℕ
   pub m : ℕ
   pub q : ℕ
@@ -19,7 +19,7 @@ abbrev pub greatest_segment : ℕ
 greatest_segment = 4194304
 
 -- the first bound that is broken
-abbrev pub policy_fault : Numbers → Option PolicyFault
+abbrev pub policy_fault : PolicyModel → Option PolicyFault
 policy_fault p =
     if p.k == 0 then Some (K p.k)
     else if p.m == 0 || nat_lt (3 * p.k) p.m then Some (M p.m)

@@ -15,9 +15,14 @@ pub struct Bytes {
 }
 
 impl Model for Bytes {
+    ghost use Rattle.std.specs.Prelude.{List, ℕ};
+    ghost use Rattle.sw_words.specs.Bytes.{IsBytes};
+
     ghost Value = { List ℕ };
 
     ghost view = { λ bytes. bytes.items.items };
+
+    ghost invariant = { λ bytes. IsBytes bytes.items.items };
 }
 
 impl Bytes {

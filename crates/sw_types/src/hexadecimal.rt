@@ -1,6 +1,8 @@
 //! Bytes as hex text: `-` for none, and else two digits a byte.
 
-ghost use Rattle.std.specs.Prelude.{◌≡◌, ◌*◌, ◌<◌, ◌≤◌, ℕ, List, Some, None, IfOk, IsErrOf, length, slice_index};
+ghost use Rattle.std.specs.Prelude.{◌≡◌, ◌*◌, ◌<◌, ◌≤◌, ℕ, List, Some, None, IfErr, IfOk, length, slice_index};
+ghost use Rattle.sw_words.specs.Memory.{UnlessMemory};
+ghost use Rattle.sw_types.specs.declared.hexadecimal.HexFault.TheVariants.{NoMemory as WantOfMemory};
 ghost use Rattle.sw_types.specs.Hex.{bytes_of_hex, hex_text};
 
 use crate::{Bytes, NoMemory};
@@ -18,10 +20,18 @@ pub enum HexFault {
     NoMemory,
 }
 
+impl From<NoMemory> for HexFault {
+    ghost from_gives = { λ _ fault. fault ≡ WantOfMemory };
+
+    fn from(_refused: NoMemory) -> HexFault {
+        HexFault::NoMemory
+    }
+}
+
 /// The bytes that a text spells: `-` spells none, and two hexadecimal digits of either case spell one.
 pub fn read_hex(alloc: Global, text: &[u8]) -> Result<Bytes, HexFault>
     ensures read { IfOk result (λ bytes. bytes_of_hex text.now ≡ Some bytes) }
-    ensures bad { IsErrOf result HexFault.Bad → bytes_of_hex text.now ≡ None }
+    ensures fault { IfErr result (λ fault. UnlessMemory HexFault.NoMemory fault (bytes_of_hex text.now ≡ None)) }
 {
     if text == b"-".as_slice() {
         return Ok(Bytes::new(alloc));

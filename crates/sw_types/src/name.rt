@@ -1,11 +1,13 @@
 //! Names of objects.
 
-ghost use Rattle.std.specs.Prelude.{◌≡◌, ◌⊎◌, Some, None, IfOk, IfErr, IfSome, MatchResult, MatchOption, ◌==◌, ◌&&◌, not, true, false};
+ghost use Rattle.std.specs.Prelude.{◌≡◌, Some, None, IfOk, IfErr, IfSome, MatchResult, MatchOption, ◌==◌, ◌&&◌, not, true, false};
 ghost use Rattle.std.proofs.Common.{rules};
 ghost use Rattle.std.specs.Cmp.Rules.{comparing};
 ghost use Rattle.std.specs.List.{list_any};
 ghost use Rattle.std.specs.Str.{is_utf8};
-ghost use Rattle.sw_types.specs.Name.{Parts, most_bytes, may_hold_slash, name_eq, part_fault, name_fault, path_of};
+ghost use Rattle.sw_words.specs.Memory.{UnlessMemory};
+ghost use Rattle.sw_types.specs.declared.name.NameFault.TheVariants.{NoMemory as WantOfMemory};
+ghost use Rattle.sw_types.specs.Name.{NameModel, most_bytes, may_hold_slash, name_eq, part_fault, name_fault, path_of};
 
 use crate::{Bytes, NoMemory};
 use std::alloc::{AllocError, Global};
@@ -94,6 +96,14 @@ pub enum NameFault {
     NoMemory,
 }
 
+impl From<NoMemory> for NameFault {
+    ghost from_gives = { λ _ fault. fault ≡ WantOfMemory };
+
+    fn from(_refused: NoMemory) -> NameFault {
+        NameFault::NoMemory
+    }
+}
+
 /// The name of an object: an account, a container and an object, each a text without NUL and not empty, of at most 256,
 /// 256 and 1,024 bytes. Only the object may hold slashes.
 #[derive(Debug, Drop)]
@@ -104,16 +114,22 @@ pub struct Name {
 }
 
 impl Model for Name {
-    ghost use Rattle.std.specs.Prelude.{string_bytes};
-    ghost use Rattle.sw_types.specs.Name.{Parts};
+    ghost use Rattle.std.specs.Prelude.{◌≡◌, None, string_bytes};
+    ghost use Rattle.sw_types.specs.Name.{NameModel, name_fault};
 
-    ghost Value = { Parts };
+    ghost Value = { NameModel };
 
     ghost view = { λ name. record {
       account = string_bytes name.account;
       container = string_bytes name.container;
       object = string_bytes name.object;
     } };
+
+    ghost invariant = { λ name. name_fault (record {
+      account = string_bytes name.account;
+      container = string_bytes name.container;
+      object = string_bytes name.object;
+    }) ≡ None };
 }
 
 impl Name {
@@ -125,21 +141,23 @@ impl Name {
         container: &[u8],
         object: &[u8],
     ) -> Result<Name, NameFault>
-        ensures made { IfOk result (λ name. name_fault name ≡ None) }
-        ensures parts { IfOk result (λ name. name ≡ record { account = account.now; container = container.now; object = object.now }) }
-        ensures fault { IfErr result (λ fault. (fault ≡ NameFault.NoMemory)
-            ⊎ (name_fault (record { account = account.now; container = container.now; object = object.now }) ≡ Some fault)) }
+        ensures sound { IfOk result (λ name. name_fault name ≡ None) }
+        ensures made { IfOk result (λ name. name ≡ record { account = account.now; container = container.now; object = object.now }) }
+        ensures fault { IfErr result (λ fault. UnlessMemory NameFault.NoMemory fault
+            (name_fault (record { account = account.now; container = container.now; object = object.now }) ≡ Some fault)) }
         ensures refused { IfSome (name_fault (record { account = account.now; container = container.now; object = object.now })) (λ fault. result ≡ Err fault) }
     {
         let account = Part::Account.read(account)?;
         let container = Part::Container.read(container)?;
         let object = Part::Object.read(object)?;
-        Name::from_texts(alloc, account, container, object).map_err(|_| NameFault::NoMemory)
+        let name = Name::from_texts(alloc, account, container, object)?;
+        Ok(name)
     }
 
     /// Its path, `/ACCOUNT/CONTAINER/OBJECT`.
     pub fn path(&self, alloc: Global) -> Result<Bytes, NoMemory>
-        ensures { IfOk result (λ path. path ≡ path_of self.now) }
+        ensures text { IfOk result (λ path. path ≡ path_of self.now) }
+        ensures sound { name_fault self.now ≡ None }
     {
         let path = format!(in alloc; "/{}/{}/{}", self.account, self.container, self.object)?;
         Ok(Bytes::from(path.into_bytes()))
@@ -150,7 +168,8 @@ impl Name {
         account: &str,
         container: &str,
         object: &str,
-    ) -> Result<Name, AllocError>
+    ) -> Result<Name, NoMemory>
+        requires { name_fault (record { account = account.now; container = container.now; object = object.now }) ≡ None }
         ensures { IfOk result (λ name. name ≡ record { account = account.now; container = container.now; object = object.now }) }
     {
         Ok(Name {
@@ -190,6 +209,6 @@ impl PartialEq for Name {
 
 /// Two names are equal exactly where their parts are.
 pub fn name_law()
-    ensures same { (a b : Parts) → name_eq a b ≡ true → a ≡ b }
-    ensures equal { (a : Parts) → name_eq a a ≡ true }
+    ensures same { (a b : NameModel) → name_eq a b ≡ true → a ≡ b }
+    ensures equal { (a : NameModel) → name_eq a a ≡ true }
 {}

@@ -1,6 +1,6 @@
 //! Storage policies.
 
-ghost use Rattle.std.specs.Prelude.{◌≡◌, IfErr, IfOk};
+ghost use Rattle.std.specs.Prelude.{◌≡◌, IfErr, IfOk, None};
 ghost use Rattle.sw_types.specs.Policy.{policy_fault};
 
 use std::marker::Model;
@@ -42,9 +42,9 @@ pub struct Policy {
 
 impl Model for Policy {
     ghost use Rattle.std.specs.Prelude.{◌≡◌, None};
-    ghost use Rattle.sw_types.specs.Policy.{Numbers, policy_fault};
+    ghost use Rattle.sw_types.specs.Policy.{PolicyModel, policy_fault};
 
-    ghost Value = { Numbers };
+    ghost Value = { PolicyModel };
 
     ghost view = { λ p. record { k = p.k; m = p.m; q = p.q; c = p.c; segment = p.segment } };
 
@@ -54,6 +54,12 @@ impl Model for Policy {
 }
 
 impl Policy {
+    /// The greatest number of fragments.
+    pub const GREATEST_TOTAL: u32 = 32;
+
+    /// The greatest number of bytes of a segment.
+    pub const GREATEST_SEGMENT: u32 = 4_194_304;
+
     /// The policy of these numbers, or the first bound that they break. It takes no memory.
     pub fn make(k: u32, m: u32, q: u32, c: u32, segment: u32) -> Result<Policy, PolicyFault>
         ensures made { IfOk result (λ policy. policy ≡ record { k = k; m = m; q = q; c = c; segment = segment }) }
@@ -67,7 +73,7 @@ impl Policy {
         if m == 0 || u64::from(m) > 3 * u64::from(k) {
             return Err(PolicyFault::M(m));
         }
-        if total > 32 {
+        if total > u64::from(Policy::GREATEST_TOTAL) {
             return Err(PolicyFault::N(total));
         }
         if q < k || u64::from(q) > total {
@@ -76,7 +82,7 @@ impl Policy {
         if c == 0 || c > q {
             return Err(PolicyFault::C(c));
         }
-        if segment < k || segment > 4_194_304 {
+        if segment < k || segment > Policy::GREATEST_SEGMENT {
             return Err(PolicyFault::Segment(segment));
         }
         Ok(Policy {
@@ -118,7 +124,8 @@ impl Policy {
 
     /// The greatest number of bytes of a segment.
     pub fn segment(&self) -> u32
-        ensures { result ≡ self.now.segment }
+        ensures value { result ≡ self.now.segment }
+        ensures sound { policy_fault self.now ≡ None }
     {
         self.segment
     }

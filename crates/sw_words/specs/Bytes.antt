@@ -2,4 +2,4 @@
 use Rattle.std.specs.Prelude.{ℕ, ◌<◌, List, slice_index}
 
 abbrev pub IsBytes : List ℕ → Type 0
-IsBytes xs = (place : ℕ) → slice_index xs place < 256
+IsBytes xs = (position : ℕ) → slice_index xs position < 256

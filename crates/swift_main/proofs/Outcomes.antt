@@ -1,44 +1,62 @@
 -- Answers that keep to an outcome.
-use Rattle.std.proofs.Common.{◌≡◌, ℕ, suc, ◌≤◌, ◌==◌, ◌&&◌, Bool, true, false, if◌then◌else◌, List, [], ◌∷◌, ◌++◌, length, Option, Some, None, Result, Ok, Err, inl, inr, ◌⊎◌, ⊎_elim, refl, sym, ◌∙◌, ap, subst, arith, nat_lt}
+use Rattle.std.proofs.Common.{◌≡◌, ℕ, suc, ◌≤◌, ◌==◌, ◌&&◌, Bool, true, false, if◌then◌else◌, List, [], ◌∷◌, ◌++◌, length, take, inl, inr, ◌⊎◌, refl, sym, ◌∙◌, ap, subst, arith}
 use Rattle.std.specs.Prelude.{◌≢◌}
 use Rattle.std.specs.List.{concat}
 use Rattle.std.proofs.Math.Seq.{take-length}
-use Rattle.sw_ring.specs.Fields.{Fields}
-use Rattle.sw_ring.specs.declared.fault.RingFault.{RingFault}
-use Rattle.swift_main.specs.Answer.{Gives}
-use Rattle.swift_main.specs.Input.{after_empty, ring_in, script_in}
-use Rattle.swift_main.specs.Nodes.{State}
-use Rattle.swift_main.specs.Outcome.{IsPart, Outcome, greatest_input, is_play, last_line, outcome_of, ring_outcome, script_outcome, script_status, status_code}
-use Rattle.swift_main.specs.Play.{Ran, RanPart}
-use Rattle.swift_main.specs.Run.{run_lines, run_text}
-use Rattle.swift_main.specs.Script.{Fault, events_of, first_fault, lines_of}
+use Rattle.sw_words.specs.Memory.{UnlessMemory}
+use Rattle.sw_ring.specs.Cluster.{ClusterModel}
+use Rattle.swift_main.specs.Answer.{Gives, Left}
+use Rattle.swift_main.specs.Input.{after_empty}
+use Rattle.swift_main.specs.Nodes.{WorldModel}
+use Rattle.swift_main.specs.Outcome.{last_line, script_outcome, script_status, status_code}
+use Rattle.swift_main.specs.Play.{Played, Ran, fault_of}
+use Rattle.swift_main.specs.Run.{run_text}
+use Rattle.swift_main.specs.Script.{events_of, first_fault, lines_of}
 use Rattle.swift_main.specs.declared.decide.Answer.{Answer}
+use Rattle.swift_main.specs.declared.event.Event.{Event}
+use Rattle.swift_main.specs.declared.play.PlayEnd.{PlayEnd}
+use Rattle.swift_main.specs.declared.play.PlayEnd.TheVariants as play_end
 use Rattle.swift_main.specs.declared.status.Status.{Status}
 use Rattle.swift_main.specs.declared.status.Status.TheVariants.{Done, Usage, Ring, Line, NoMemory, ReadFault, WriteFault, TooLong}
 use Rattle.swift_main.proofs.Runs.{run_lines-take}
 
--- a script that was run to its end or its first faulty line
-pub script_ran : (cluster : Fields) (script : List ℕ) (fault : Option Fault) (status : Status) (world : State) (text : List ℕ) (answer : Answer)
-    → script_status fault ≡ status → fault ≡ first_fault 1 (lines_of script) → Ran cluster [] (events_of (lines_of script)) world [] text
-    → (answer.status ≢ NoMemory → (answer.status ≡ status) × (answer.text ≡ text ++ last_line status)) → (answer.status ≡ NoMemory → answer.text ≡ text) → Gives (script_outcome cluster.policy script) answer
-script_ran cluster script fault status world text answer is same ran done wants =
+-- ---- a script over a fresh world
+
+-- the status of the end of a script
+abbrev pub status_of : PlayEnd → Status
+status_of play_end.Done = Done
+status_of (play_end.Line line fault) = Line line fault
+status_of play_end.NoMemory = NoMemory
+
+status_of_fault : (end : PlayEnd) → end ≢ play_end.NoMemory → status_of end ≡ script_status (fault_of end)
+status_of_fault play_end.Done goes = refl
+status_of_fault (play_end.Line line fault) goes = refl
+status_of_fault play_end.NoMemory goes = absurd (goes refl)
+
+-- the answer of a script's end
+pub script_gives : (cluster : ClusterModel) (script : List ℕ) (end : PlayEnd) (world : WorldModel) (old text : List ℕ) (answer : Answer)
+    → old ≡ [] → UnlessMemory play_end.NoMemory end (fault_of end ≡ first_fault 1 (lines_of script)) → Played cluster [] (events_of (lines_of script)) end world old text
+    → UnlessMemory NoMemory answer.status ((answer.status ≡ status_of end) × (answer.text ≡ text ++ last_line (status_of end))) → (answer.status ≡ NoMemory → answer.text ≡ text)
+    → Gives (script_outcome cluster.policy script) answer
+script_gives cluster script end world old text answer empty ends played done none =
     let events = events_of (lines_of script) in
-    let ends : status ≡ script_status (first_fault 1 (lines_of script)) = sym is ∙ ap script_status same in
+    let lines : text ≡ run_text cluster.policy [] (take played.written events) = played.ran.text ∙ ap (λ t. t ++ run_text cluster.policy [] (take played.written events)) empty in
     record {
       whole = λ goes.
           let parts = done goes in
-          (parts.0 ∙ ends, parts.1 ∙ ap (λ t. t ++ last_line status) ran.text ∙ ap (λ s. run_text cluster.policy [] events ++ last_line s) ends);
-      part = λ none.
-          let lines = run_lines cluster.policy [] events in
-          record { ended = length lines; lines = wants none ∙ ran.text ∙ ap concat (sym (take-length lines)) };
+          let went : end ≢ play_end.NoMemory = λ same. goes (parts.0 ∙ ap status_of same) in
+          let status : status_of end ≡ script_status (first_fault 1 (lines_of script)) = status_of_fault end went ∙ ap script_status (ends went) in
+          let all : text ≡ run_text cluster.policy [] events =
+          lines ∙ ap (λ n. run_text cluster.policy [] (take n events)) (played.all went).1 ∙ ap (λ t. run_text cluster.policy [] t) (take-length events) in
+          (parts.0 ∙ status, parts.1 ∙ ap (λ t. t ++ last_line (status_of end)) all ∙ ap (λ s. run_text cluster.policy [] events ++ last_line s) status);
+      part = λ wants. record { ended = played.written; lines = none wants ∙ lines ∙ ap concat (sym (run_lines-take cluster.policy [] events played.written)) };
     }
 
--- a script in which memory was refused
-pub script_ran_part : (cluster : Fields) (script : List ℕ) (world : State) (text : List ℕ) → RanPart cluster [] (events_of (lines_of script)) world [] text → IsPart (script_outcome cluster.policy script) text
-script_ran_part cluster script world text part = record {
-  ended = part.written;
-  lines = part.text ∙ ap concat (sym (run_lines-take cluster.policy [] (events_of (lines_of script)) part.written));
-}
+-- what it leaves where memory was refused
+pub script_left : (cluster : ClusterModel) (events : List Event) (end : PlayEnd) (world : WorldModel) (old text : List ℕ) (answer : Answer) → old ≡ [] → Played cluster [] events end world old text
+    → (answer.status ≡ NoMemory → answer.text ≡ text) → answer.status ≡ NoMemory → Left cluster events world answer
+script_left cluster events end world old text answer empty played none wants =
+    record { done = played.done; written = played.written; ran = rw (none wants) (subst (λ before. Ran cluster [] events played.done played.written world before text) empty played.ran) }
 
 -- the script is no longer than the input
 pub script_within : (starts : Bool) (input : List ℕ) → length (after_empty starts input) ≤ length input
@@ -46,6 +64,8 @@ script_within starts [] = omega arith
 script_within starts (byte ∷ bytes) =
     let later = script_within (byte == 10) bytes in
     elim (starts && (byte == 10)) as (λ empty. length (if empty then bytes else after_empty (byte == 10) bytes) ≤ suc (length bytes)) [ true ↦ omega arith | false ↦ omega arith ]
+
+-- ---- the exit status
 
 -- memory was refused, or not
 pub is_no_memory : (status : Status) → (status ≡ NoMemory) ⊎ (status ≢ NoMemory)
@@ -58,27 +78,13 @@ is_no_memory ReadFault = inr (λ same. cc)
 is_no_memory WriteFault = inr (λ same. cc)
 is_no_memory TooLong = inr (λ same. cc)
 
--- neither of two statuses is a failure of the output
-either_decided : (first : Bool) (one other : Outcome) → status_code one.status ≢ 6 → status_code other.status ≢ 6 → status_code (if first then one else other).status ≢ 6
-either_decided true one other left right = left
-either_decided false one other left right = right
-
--- a script's status is no failure of the output
-script_decided : (fault : Option Fault) → status_code (script_status fault) ≢ 6
-script_decided None = λ same. omega arith
-script_decided (Some fault) = λ same. omega arith
-
--- nor is that of a ring and a script
-ring_decided : (ring : Result Fields RingFault) (script : List ℕ) → status_code (ring_outcome ring script).status ≢ 6
-ring_decided (Ok cluster) script = script_decided (first_fault 1 (lines_of script))
-ring_decided (Err fault) script = λ same. omega arith
-
--- nor is that of any words and input
-outcome_decided : (words : List (List ℕ)) (input : List ℕ) → status_code (outcome_of words input).status ≢ 6
-outcome_decided words input =
-    either_decided (is_play words) _ _ (either_decided (nat_lt greatest_input (length input)) _ _ (λ same. omega arith) (ring_decided (ring_in input) (script_in input))) (λ same. omega arith)
-
--- nor is an answer's
-pub answer_decided : (words : List (List ℕ)) (input : List ℕ) (answer : Answer) → Gives (outcome_of words input) answer → status_code answer.status ≢ 6
-answer_decided words input answer gives =
-    ⊎_elim (λ wants. rw wants (λ same. omega arith)) (λ goes. subst (λ status. status_code status ≢ 6) (sym (gives.whole goes).0) (outcome_decided words input)) (is_no_memory answer.status)
+-- no other status is printed as want of memory
+pub no_memory_code : (status : Status) → status_code status ≡ 4 → status ≡ NoMemory
+no_memory_code Done four = absurd (omega arith)
+no_memory_code Usage four = absurd (omega arith)
+no_memory_code (Ring fault) four = absurd (omega arith)
+no_memory_code (Line line fault) four = absurd (omega arith)
+no_memory_code NoMemory four = refl
+no_memory_code ReadFault four = absurd (omega arith)
+no_memory_code WriteFault four = absurd (omega arith)
+no_memory_code TooLong four = absurd (omega arith)

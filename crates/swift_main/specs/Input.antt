@@ -2,7 +2,7 @@
 use Rattle.std.specs.Prelude.{ℕ, ◌==◌, ◌&&◌, Bool, true, if◌then◌else◌, List, [], ◌∷◌, Result}
 use Rattle.sw_ring.specs.BuiltIn.{built_in}
 use Rattle.sw_ring.specs.Cluster.{ring_of}
-use Rattle.sw_ring.specs.Fields.{Fields}
+use Rattle.sw_ring.specs.Members.{RingMembers}
 use Rattle.sw_ring.specs.declared.fault.RingFault.{RingFault}
 
 -- What stands before the first empty line, which is a line feed where a line starts, and what after it: nothing, where there
@@ -21,7 +21,7 @@ ring_text [] = built_in
 ring_text (byte ∷ bytes) = byte ∷ bytes
 
 -- the ring of an input, or the first rule that it breaks
-abbrev pub ring_in : List ℕ → Result Fields RingFault
+abbrev pub ring_in : List ℕ → Result RingMembers RingFault
 ring_in input = ring_of (ring_text (before_empty true input))
 
 -- the script of an input

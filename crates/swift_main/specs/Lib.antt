@@ -8,3 +8,4 @@ pub mod Play
 pub mod Run
 pub mod Script
 pub mod Storing
+pub mod Top

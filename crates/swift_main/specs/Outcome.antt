@@ -3,9 +3,9 @@ use Rattle.std.specs.Prelude.{◌≡◌, ℕ, nat_eq, nat_lt, Bool, false, if◌
 use Rattle.std.specs.Cmp.Lexicographic.{pointwise}
 use Rattle.std.specs.Fmt.{decimal}
 use Rattle.std.specs.List.{concat}
-use Rattle.sw_types.specs.Policy.{Numbers}
-use Rattle.sw_ring.specs.Fields.{Fields}
-use Rattle.sw_ring.specs.Numbered.{number_of}
+use Rattle.sw_types.specs.Policy.{PolicyModel}
+use Rattle.sw_ring.specs.Members.{RingMembers}
+use Rattle.sw_ring.specs.Numbered.{ring_fault_number}
 use Rattle.sw_ring.specs.declared.fault.RingFault.{RingFault}
 use Rattle.swift_main.specs.declared.event.LineFault.{LineFault}
 use Rattle.swift_main.specs.declared.event.LineFault.TheVariants as fault
@@ -16,9 +16,9 @@ use Rattle.swift_main.specs.Run.{run_lines}
 use Rattle.swift_main.specs.Script.{Fault, events_of, first_fault, lines_of}
 
 -- the number of a line's fault
-abbrev pub fault_number : LineFault → ℕ
-fault_number fault.Form = 1
-fault_number fault.NoMemory = 0
+abbrev pub line_fault_number : LineFault → ℕ
+line_fault_number fault.Form = 1
+line_fault_number fault.NoMemory = 0
 
 -- the exit status
 abbrev pub status_code : Status → ℕ
@@ -35,8 +35,8 @@ status_code TooLong = 10
 abbrev pub last_line : Status → List ℕ
 last_line Done = []
 last_line Usage = codes "usage: play | serve PORT WORKERS | load N" ++ 10 ∷ []
-last_line (Ring fault) = codes "ring: " ++ decimal (number_of fault) ++ 10 ∷ []
-last_line (Line line fault) = codes "line " ++ decimal line ++ codes ": " ++ decimal (fault_number fault) ++ 10 ∷ []
+last_line (Ring fault) = codes "ring: " ++ decimal (ring_fault_number fault) ++ 10 ∷ []
+last_line (Line line fault) = codes "line " ++ decimal line ++ codes ": " ++ decimal (line_fault_number fault) ++ 10 ∷ []
 last_line NoMemory = []
 last_line ReadFault = []
 last_line WriteFault = []
@@ -61,12 +61,12 @@ script_status None = Done
 script_status (Some fault) = Line fault.line fault.fault
 
 -- of a script over a cluster of this policy
-abbrev pub script_outcome : Numbers → List ℕ → Outcome
+abbrev pub script_outcome : PolicyModel → List ℕ → Outcome
 script_outcome policy script = record { status = script_status (first_fault 1 (lines_of script)); ends = run_lines policy [] (events_of (lines_of script)) }
 
 -- of a ring, or the rule that it breaks, and a script
-abbrev pub ring_outcome : Result Fields RingFault → List ℕ → Outcome
-ring_outcome (Ok cluster) script = script_outcome cluster.policy script
+abbrev pub ring_outcome : Result RingMembers RingFault → List ℕ → Outcome
+ring_outcome (Ok members) script = script_outcome members.policy script
 ring_outcome (Err fault) script = record { status = Ring fault; ends = [] }
 
 abbrev pub outcome_of : List (List ℕ) → List ℕ → Outcome

@@ -2,8 +2,10 @@
 use Rattle.std.specs.Prelude.{ℕ, ◌+◌, ◌==◌, if◌then◌else◌, nat_eq, nat_lt, is_none, codes, List, [], ◌∷◌, length, Option, Some, None, Result, Ok, Err}
 use Rattle.std.specs.Cmp.Lexicographic.{pointwise}
 use Rattle.std.specs.List.{slice_split, before_first, after_first, list_any}
-use Rattle.sw_types.specs.Name.{Parts, name_fault}
+use Rattle.sw_types.specs.Name.{NameModel, name_fault}
+use Rattle.sw_types.specs.Head.{HeadModel}
 use Rattle.sw_types.specs.Hex.{bytes_of_hex}
+use Rattle.sw_types.specs.Object.{object_of}
 use Rattle.swift_main.specs.declared.event.Event.{Event}
 use Rattle.swift_main.specs.declared.event.Event.TheVariants.{Put, Get}
 use Rattle.swift_main.specs.declared.event.LineFault.{LineFault}
@@ -22,7 +24,7 @@ abbrev pub words_of : List ℕ → List (List ℕ)
 words_of line = slice_split (λ byte. byte == 32) line
 
 -- The first slash ends the account and the second the container; the object is the rest.
-abbrev pub parts_of : List ℕ → Parts
+abbrev pub parts_of : List ℕ → NameModel
 parts_of text =
     let rest = after_first (λ byte. byte == 47) text in
     record {
@@ -32,18 +34,22 @@ parts_of text =
     }
 
 -- the name that a word spells, which has no percent sign yet
-abbrev pub name_of : List ℕ → Option Parts
+abbrev pub name_of : List ℕ → Option NameModel
 name_of word =
     if list_any (λ byte. byte == 37) word then None
     else if is_none (name_fault (parts_of word)) then Some (parts_of word)
     else None
 
-abbrev pub put_of : Option Parts → Option (List ℕ) → Result (Option Event) LineFault
-put_of (Some name) (Some body) = Ok (Some (Put name body))
+-- the head of each object that a script puts
+abbrev pub script_head : HeadModel
+script_head = record { content_type = codes "application/octet-stream"; pairs = [] }
+
+abbrev pub put_of : Option NameModel → Option (List ℕ) → Result (Option Event) LineFault
+put_of (Some name) (Some body) = Ok (Some (Put name (object_of script_head body)))
 put_of (Some name) None = Err Form
 put_of None body = Err Form
 
-abbrev pub get_of : Option Parts → Result (Option Event) LineFault
+abbrev pub get_of : Option NameModel → Result (Option Event) LineFault
 get_of (Some name) = Ok (Some (Get name))
 get_of None = Err Form
 

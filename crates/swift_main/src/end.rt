@@ -9,9 +9,9 @@ use sw_types::{Bytes, NoMemory, Stamp, print_hex};
 /// How an operation ended.
 #[derive(Debug, Drop)]
 pub enum End {
-    /// So many nodes hold a fragment of the object, each its own, durable.
+    /// So many nodes hold an archive of the object, each its own, durable.
     Created { stamp: Stamp, commits: u32 },
-    /// The body of the last put of the name, decoded from the fragments of its stamp of the indices below k.
+    /// The body of the last put of the name, read from the archives of its stamp of the indices below k.
     Found { stamp: Stamp, body: Bytes, k: u32 },
     /// The name was not put.
     Absent,
@@ -45,7 +45,7 @@ impl End {
     }
 }
 
-// The line of a body that was found, decoded from the fragments of the indices below k.
+// The line of a body that was found, read from the archives of the indices below k.
 fn found_line(
     alloc: Global,
     number: u64,

@@ -1,8 +1,9 @@
 //! The parts of the whole input.
 
-ghost use Rattle.std.specs.Prelude.{◌≡◌, ◌⊎◌, ◌+◌, true, Ok, Err, IfErr, IfOk};
-ghost use Rattle.sw_ring.specs.Cluster.{IsCluster, ring_of};
-ghost use Rattle.sw_ring.specs.Fields.{Fields};
+ghost use Rattle.std.specs.Prelude.{◌≡◌, ◌+◌, true, Ok, Err, IfErr, IfOk};
+ghost use Rattle.sw_words.specs.Memory.{UnlessMemory};
+ghost use Rattle.sw_ring.specs.Cluster.{IsCluster, KeepsRules, ring_of};
+ghost use Rattle.sw_ring.specs.Members.{RingMembers};
 ghost use Rattle.swift_main.specs.Input.{after_empty, before_empty, ring_text};
 
 use memchr::memmem;
@@ -25,8 +26,9 @@ pub fn at_empty_line(input: &[u8]) -> (&[u8], &[u8])
 
 /// The cluster of a ring's text, or of the built-in one where the text is empty; or the first rule that it breaks.
 pub fn read_ring(alloc: Global, text: &[u8]) -> Result<Cluster, RingFault>
-    ensures read { IfOk result (λ cluster. (fields : Fields) × (ring_of (ring_text text.now) ≡ Ok fields) × IsCluster fields cluster) }
-    ensures fault { IfErr result (λ fault. (fault ≡ RingFault.NoMemory) ⊎ (ring_of (ring_text text.now) ≡ Err fault)) }
+    ensures read { IfOk result (λ cluster. (members : RingMembers) × (ring_of (ring_text text.now) ≡ Ok members) × IsCluster members cluster) }
+    ensures rules { IfOk result KeepsRules }
+    ensures fault { IfErr result (λ fault. UnlessMemory RingFault.NoMemory fault (ring_of (ring_text text.now) ≡ Err fault)) }
 {
     if text.is_empty() {
         Cluster::read(alloc, built_in())

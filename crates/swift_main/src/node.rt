@@ -1,42 +1,23 @@
-//! A node: a plain list of the fragments that it keeps.
+//! A node: a plain list of the archives that it keeps.
 
 ghost use Rattle.std.specs.Prelude.{◌≡◌, []};
 ghost use Rattle.std.specs.Option.{option_copied};
 ghost use Rattle.swift_main.specs.Nodes.{newest};
 
-use std::alloc::{AllocError, Global};
+use std::alloc::Global;
 use sw_types::{Bytes, Name, Stamp};
 
-/// A fragment of an object, as a node keeps it.
+/// An archive of an object, as a node keeps it.
 #[derive(Debug, Drop)]
 pub struct Stored {
     pub name: Name,
     pub stamp: Stamp,
     pub index: u32,
-    /// How many bytes the object has.
-    pub length: usize,
-    pub fragment: Bytes,
+    pub archive: Bytes,
     pub durable: bool,
 }
 
-impl Clone for Stored {
-    ghost is_clone = { λ entry copy. copy ≡ entry };
-
-    fn clone(&self) -> Result<Stored, AllocError> {
-        let name = self.name.clone()?;
-        let fragment = self.fragment.clone()?;
-        Ok(Stored {
-            name,
-            stamp: self.stamp,
-            index: self.index,
-            length: self.length,
-            fragment,
-            durable: self.durable,
-        })
-    }
-}
-
-/// A device, and the fragments that it keeps, the oldest first.
+/// A device, and the archives that it keeps, the oldest first.
 #[derive(Debug, Drop)]
 pub struct Node {
     pub device: u16,

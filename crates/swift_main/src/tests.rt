@@ -118,6 +118,15 @@ get a/c/q"#,
              e 3 found 1000000000.00000 0001020304 0,1,2\n\
              e 4 found 1000000000.00001 ff 0,1,2\ne 5 absent\n",
         ),
+        // A body of three segments, of which the last is shorter.
+        (
+            r#"{"part_power":0,"k":2,"m":1,"segment":4,"devices":[{"id":0},{"id":1},{"id":2},{"id":3}],"rows":[[0],[1],[2]]}
+
+put a/c/o 000102030405060708
+get a/c/o"#,
+            "e 1 created 1000000000.00000 3\n\
+             e 2 found 1000000000.00000 000102030405060708 0,1\n",
+        ),
         // Without an empty line there is no script.
         (
             r#"{"part_power":0,"k":1,"m":1,"devices":[{"id":5},{"id":9}],"rows":[[9],[5]]}

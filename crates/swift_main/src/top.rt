@@ -1,12 +1,12 @@
 //! The top call.
 
-ghost use Rattle.std.specs.Prelude.{◌≡◌, ◌≢◌, ◌+◌, ℕ, map, take, drop, IfSome, IfOk, OnOk, IsOk, IsErrOf, string_bytes, true, false, Some};
-ghost use Rattle.std.specs.List.{concat};
+ghost use Rattle.std.specs.Prelude.{◌≡◌, ◌≢◌, ◌+◌, map, IfOk, IfSome, IsErrOf, IsOk, OnErr, OnOk, string_bytes, true, false};
 ghost use Rattle.std.specs.Io.KnownBytes.{Appends, Keeps};
-ghost use Rattle.sw_io.specs.Whole.{AppendsFront};
+ghost use Rattle.sw_io.specs.Whole.{ConsumesFront};
 ghost use Rattle.sw_words.specs.Counts.{Rose};
-ghost use Rattle.swift_main.specs.Outcome.{greatest_input, is_play, last_line, outcome_of, status_code, text_of};
-ghost use Rattle.swift_main.specs.declared.status.Status.{Status};
+ghost use Rattle.sw_words.specs.Memory.{UnlessMemory};
+ghost use Rattle.swift_main.specs.Outcome.{greatest_input, is_play, outcome_of, status_code, text_of};
+ghost use Rattle.swift_main.specs.Top.{Broke, Decided, IsRead, Stopped};
 
 use crate::decide::{GREATEST_INPUT, decide, is_play};
 use crate::status::Status;
@@ -15,37 +15,42 @@ use sw_io::{ReadError, Sink, Source, read_up_to, write_all};
 
 /// Runs the program: reads the whole input where the words are a command, decides by the words and the input, writes
 /// the text, and answers the exit status.
+///
+/// All clauses but `whole` hold whatever source and sink tell; `whole` says `decided` again of an input that is told.
 pub fn swift_main<S: Source, O: Sink>(
     alloc: Global,
     words: &[String],
     input: &mut S,
     output: &mut O,
 ) -> u8
-    // Unless memory, the input or the output fails, the status and the text are those of the outcome.
-    ensures decided { result ≢ 4 → result ≢ 5 → result ≢ 6 → IfSome (S.remaining input.old) (λ whole.
-        let outcome = outcome_of (map (λ word. string_bytes word) words.now) whole in
-        (result ≡ status_code outcome.status) × Appends (O.written output.old) (O.written output.new) (text_of outcome)) }
+    // Unless memory, the input or the output fails, status and text are those of the outcome of the words and of the bytes
+    // that were read, and each found line tells of the last put of its name.
+    ensures decided { UnlessMemory 4 result (result ≢ 5 → result ≢ 6 →
+        Decided (map (λ word. string_bytes word) words.now) (S.remaining input.old) (S.remaining input.new) (O.written output.old) (O.written output.new) result) }
 
-    // Words that are no command are answered so whatever the input is, and nothing of it is read.
-    ensures usage { is_play (map (λ word. string_bytes word) words.now) ≡ false →
-        (result ≢ 4 → result ≢ 6 → (result ≡ 1) × Appends (O.written output.old) (O.written output.new) (last_line Status.Usage))
-        × Keeps (S.remaining input.old) (S.remaining input.new) }
+    // Words that are no command are answered with 1, whatever the input is, and nothing else is.
+    ensures usage { is_play (map (λ word. string_bytes word) words.now) ≡ false → UnlessMemory 4 result (result ≢ 6 → result ≡ 1) × Keeps (S.remaining input.old) (S.remaining input.new) }
+    ensures usage_only { result ≡ 1 → is_play (map (λ word. string_bytes word) words.now) ≡ false }
 
-    // The input is read to its end, or to one byte more than it may have.
-    ensures reads { is_play (map (λ word. string_bytes word) words.now) ≡ true → result ≢ 4 → result ≢ 5 →
-        IfSome (S.remaining input.old) (λ whole. S.remaining input.new ≡ Some (drop (greatest_input + 1) whole)) }
+    // Where memory was refused, some first lines of the outcome are written, each whole.
+    ensures no_memory { result ≡ 4 →
+        Stopped (map (λ word. string_bytes word) words.now) (S.remaining input.old) (S.remaining input.new) (O.written output.old) (O.written output.new) }
 
-    // Where memory was refused, the lines of the operations that had ended are written, each whole.
-    ensures no_memory { result ≡ 4 → IfSome (S.remaining input.old) (λ whole. (ended : ℕ) ×
-        Appends (O.written output.old) (O.written output.new)
-        (concat (take ended (outcome_of (map (λ word. string_bytes word) words.now) whole).ends))) }
-
-    // A failed input or output is one whose count of faults rose.
+    // A failed input or output is one whose count of faults rose. After a failed input nothing is written, and after a failed
+    // output a front of the text is.
     ensures read_fault { result ≡ 5 → Rose (S.faults input.old) (S.faults input.new)
-        × Keeps (O.written output.old) (O.written output.new) }
+        × ConsumesFront (S.remaining input.old) (S.remaining input.new) (greatest_input + 1) × Keeps (O.written output.old) (O.written output.new) }
     ensures write_fault { result ≡ 6 → Rose (O.faults output.old) (O.faults output.new)
-        × IfSome (S.remaining input.old) (λ whole. AppendsFront (O.written output.old) (O.written output.new)
-        (text_of (outcome_of (map (λ word. string_bytes word) words.now) whole))) }
+        × Broke (map (λ word. string_bytes word) words.now) (S.remaining input.old) (S.remaining input.new) (O.written output.old) (O.written output.new) }
+
+    // With any other status nothing failed: the counts of faults are what they were.
+    ensures input_quiet { result ≢ 5 → S.faults input.new ≡ S.faults input.old }
+    ensures output_quiet { result ≢ 6 → O.faults output.new ≡ O.faults output.old }
+
+    // Where the source tells its whole input, status and text are those of the outcome of it.
+    ensures whole { UnlessMemory 4 result (result ≢ 5 → result ≢ 6 → IfSome (S.remaining input.old) (λ whole.
+        let outcome = outcome_of (map (λ word. string_bytes word) words.now) whole in
+        (result ≡ status_code outcome.status) × Appends (O.written output.old) (O.written output.new) (text_of outcome))) }
 {
     match read_input(alloc, words, input) {
         Ok(whole) => {
@@ -67,13 +72,12 @@ fn read_input<S: Source>(
     words: &[String],
     input: &mut S,
 ) -> Result<Vec<u8>, ReadError>
-    ensures enough { IfOk result (λ bytes. IfSome (S.remaining input.old) (λ whole.
-        outcome_of (map (λ word. string_bytes word) words.now) bytes.items ≡ outcome_of (map (λ word. string_bytes word) words.now) whole)) }
-    ensures reads { is_play (map (λ word. string_bytes word) words.now) ≡ true → OnOk result (
-        IfSome (S.remaining input.old) (λ whole. S.remaining input.new ≡ Some (drop (greatest_input + 1) whole))) }
-    ensures no_command { is_play (map (λ word. string_bytes word) words.now) ≡ false →
-        IsOk result × Keeps (S.remaining input.old) (S.remaining input.new) }
+    ensures read { IfOk result (λ bytes. IsRead (map (λ word. string_bytes word) words.now) (S.remaining input.old) (S.remaining input.new) bytes.items) }
+    ensures front { OnErr result (ConsumesFront (S.remaining input.old) (S.remaining input.new) (greatest_input + 1)) }
+    ensures no_command { is_play (map (λ word. string_bytes word) words.now) ≡ false → IsOk result }
     ensures failed { IsErrOf result ReadError.Failed → Rose (S.faults input.old) (S.faults input.new) }
+    ensures no_memory { IsErrOf result ReadError.NoMemory → S.faults input.new ≡ S.faults input.old }
+    ensures quiet { OnOk result (S.faults input.new ≡ S.faults input.old) }
 {
     if is_play(words) {
         read_up_to(alloc, input, GREATEST_INPUT + 1)

@@ -1,23 +1,20 @@
-use Rattle.std.proofs.Common.{◌≡◌, ◌∷◌, [], ◌++◌, ◌∙◌, map, ap, ap₂, sym, zero-add, arith}
-use Rattle.std.specs.List.{range_with_len}
-use Rattle.std.proofs.lemmas.List.FromFn.{map-range_with_len_more}
-use Rattle.sw_cauchy.specs.Stripe.{fragment_byte, padded}
-use Rattle.code_bench.proofs.Fragments.{fragment_of_bytes}
+use Rattle.std.proofs.Common.{◌∷◌, [], ◌++◌, ◌∙◌, ap₂, sym, arith}
+use Rattle.std.proofs.lemmas.List.{take_all, take_more}
+use Rattle.sw_cauchy.specs.Stripe.{segment_fragment}
+use Rattle.sw_cauchy.proofs.Fragments.{length-segment_fragment}
 use Rattle.code_bench.proofs.plain.plain_fragment.Goals as goal
 
-pub loop-place-preserved : goal.loop-place-preserved
-loop-place-preserved c =
-    let byte = fragment_byte c.args.code.k c.fragment_width-width.result (padded c.args.code.k c.args.segment.now) c.args.i in
+pub loop-position-preserved : goal.loop-position-preserved
+loop-position-preserved c =
+    let k = c.args.code.k in
+    let segment = c.args.segment.now in
     c.in_ok-push.ensures.items
-    ∙ ap₂ (λ before new. before ++ new ∷ []) c.loop-place.invariant c.fragment_byte.ensures
-    ∙ sym (map-range_with_len_more byte 0 c.loop-place.place c.loop-place.place (zero-add c.loop-place.place))
+    ∙ ap₂ (λ before new. before ++ new ∷ []) c.loop-position.invariant c.fragment_byte.ensures
+    ∙ sym (take_more (segment_fragment k segment c.args.i) c.loop-position.position 0 (omega (arith, length-segment_fragment k segment c.args.i)))
 
 pub returns : goal.returns
 returns c =
     let k = c.args.code.k in
-    let width = c.fragment_width-width.result in
-    let all : c.loop-place.place ≡ width = omega (arith, c.loop-place.auto.place-end, c.loop-place-test.false) in
-    c.from.ensures
-    ∙ c.loop-place.invariant
-    ∙ ap (λ n. map (fragment_byte k width (padded k c.args.segment.now) c.args.i) (range_with_len 0 n)) all
-    ∙ fragment_of_bytes k width c.args.segment.now c.args.i c.fragment_width-width.ensures
+    let segment = c.args.segment.now in
+    c.from.ensures ∙ c.loop-position.invariant
+    ∙ take_all c.loop-position.position (segment_fragment k segment c.args.i) (omega (arith, length-segment_fragment k segment c.args.i))

@@ -1,7 +1,6 @@
-use Rattle.std.proofs.Common.{◌≡◌, map}
-use Rattle.std.specs.List.{range_with_len}
-use Rattle.sw_cauchy.specs.Stripe.{fragment_byte, padded}
+use Rattle.std.proofs.Common.{◌≡◌, take}
+use Rattle.sw_cauchy.specs.Stripe.{segment_fragment}
 use Rattle.code_bench.proofs.plain.plain_fragment.Given as goal
 
-abbrev pub invariant-loop-place : goal.invariant-loop-place
-invariant-loop-place l = l.bytes.items ≡ map (fragment_byte l.code.k l.width (padded l.code.k l.segment) l.i) (range_with_len 0 l.place)
+abbrev pub invariant-loop-position : goal.invariant-loop-position
+invariant-loop-position l = l.bytes.items ≡ take l.position (segment_fragment l.code.k l.segment l.i)

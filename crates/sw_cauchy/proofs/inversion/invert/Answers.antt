@@ -3,8 +3,7 @@ use Rattle.std.specs.Vec.{with_items}
 use Rattle.std.proofs.lemmas.List.{with_items_is}
 use Rattle.sw_words.specs.Bytes.{IsBytes}
 use Rattle.sw_cauchy.specs.Linear.{AreIndependent}
-use Rattle.sw_cauchy.specs.Elimination.{IsMatrixProduct, HasUnitColumns}
-use Rattle.sw_cauchy.proofs.UnitMatrix.{unit_product}
+use Rattle.sw_cauchy.proofs.EliminationSteps.{IsEliminated, Eliminated-none, Eliminated-more, Eliminated-all}
 use Rattle.sw_cauchy.proofs.inversion.invert.Goals as goal
 
 pub loop-column-init : goal.loop-column-init
@@ -14,40 +13,41 @@ loop-column-init c =
     let companion = c.in_ok-companion.companion.items in
     let bytes : IsBytes matrix = search rules in
     let copied : c.in_ok-current.current.items ≡ matrix = search rules in
+    let unit = c.in_ok-companion.ensures in
     record {
       current_square = ap length copied ∙ c.requires.square;
-      companion_square = c.in_ok-companion.ensures.square;
-      companion_bytes = c.in_ok-companion.ensures.bytes;
-      product = subst (IsMatrixProduct k companion matrix) (sym copied) (unit_product k companion matrix c.in_ok-companion.ensures.unit bytes);
-      independent = subst (AreIndependent k) (sym copied) c.requires.independent;
-      unit_columns = λ i j hi hj. absurd (omega arith);
+      eliminated = subst (λ xs. IsEliminated k matrix xs companion 0) (sym copied)
+          (Eliminated-none k matrix companion unit.square unit.bytes unit.unit bytes c.requires.independent);
     }
 
 pub eliminate-requires-clause-independent : goal.eliminate-requires-clause-independent
 eliminate-requires-clause-independent c =
-    subst (AreIndependent c.args.k) (sym c.deref_mut.ensures.value) c.loop-column.invariant.independent
+    subst (AreIndependent c.args.k) (sym c.deref_mut.ensures.value) c.loop-column.invariant.eliminated.independent
 
 pub loop-column-preserved : goal.loop-column-preserved
 loop-column-preserved c =
     let k = c.args.k in
     let matrix = c.args.matrix.now in
+    let next = c.loop-column.column + 1 in
     let bytes : IsBytes matrix = search rules in
     let before = c.loop-column.invariant in
-    let operation = c.eliminate.ensures.operation in
     let current_is : (with_items c.loop-column.current c.eliminate.new.current).items ≡ c.eliminate.new.current = with_items_is c.loop-column.current c.eliminate.new.current (omega arith) in
     let companion_is : (with_items c.loop-column.companion c.eliminate.new.companion).items ≡ c.eliminate.new.companion = with_items_is c.loop-column.companion c.eliminate.new.companion (omega arith) in
+    let given =
+    subst (λ xs. IsEliminated k matrix c.deref_mut.result.now xs c.loop-column.column) (sym c.deref_mut-in-loop-column.ensures.value)
+    (subst (λ xs. IsEliminated k matrix xs c.loop-column.companion.items c.loop-column.column) (sym c.deref_mut.ensures.value) before.eliminated) in
+    let more =
+    Eliminated-more k matrix c.deref_mut.result.now c.deref_mut-in-loop-column.result.now c.eliminate.new.current c.eliminate.new.companion c.loop-column.column bytes given
+    c.eliminate.ensures.operation c.eliminate.ensures.after (omega (arith, before.eliminated.companion_square)) c.eliminate.ensures.companion_bytes in
     record {
       current_square = ap length current_is ∙ omega arith;
-      companion_square = ap length companion_is ∙ omega arith;
-      companion_bytes = subst IsBytes (sym companion_is) c.eliminate.ensures.companion_bytes;
-      product =
-          subst (λ xs. IsMatrixProduct k xs matrix (with_items c.loop-column.current c.eliminate.new.current).items) (sym companion_is)
-          (subst (IsMatrixProduct k c.eliminate.new.companion matrix) (sym current_is)
-          (operation.product_kept matrix bytes
-          (subst (λ xs. IsMatrixProduct k xs matrix c.deref_mut.result.now) (sym c.deref_mut-in-loop-column.ensures.value)
-          (subst (IsMatrixProduct k c.loop-column.companion.items matrix) (sym c.deref_mut.ensures.value) before.product))));
-      independent =
-          subst (AreIndependent k) (sym current_is)
-          (operation.independence_kept (subst (AreIndependent k) (sym c.deref_mut.ensures.value) before.independent));
-      unit_columns = subst (λ xs. HasUnitColumns k xs (c.loop-column.column + 1)) (sym current_is) c.eliminate.ensures.after;
+      eliminated =
+          subst (λ xs. IsEliminated k matrix xs (with_items c.loop-column.companion c.eliminate.new.companion).items next) (sym current_is)
+          (subst (λ xs. IsEliminated k matrix c.eliminate.new.current xs next) (sym companion_is) more);
     }
+
+pub returns-clause-inverse : goal.returns-clause-inverse
+returns-clause-inverse c =
+    let last : c.loop-column.column ≡ c.args.k = omega arith in
+    Eliminated-all c.args.k c.args.matrix.now c.loop-column.current.items c.loop-column.companion.items
+    (subst (IsEliminated c.args.k c.args.matrix.now c.loop-column.current.items c.loop-column.companion.items) last c.loop-column.invariant.eliminated)

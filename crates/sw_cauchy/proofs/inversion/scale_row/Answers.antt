@@ -7,9 +7,9 @@ use Rattle.sw_cauchy.proofs.inversion.scale_row.Goals as goal
 pub returns : goal.returns
 returns c =
     let k = c.args.k in
-    let place = c.args.row * k in
+    let position = c.args.row * k in
     let old = c.args.matrix.now in
     let fits = row_fits c.args.row k k k c.requires.within (omega arith) in
-    let long : length (take (place + k - place) (drop place old)) ≡ k = (length-take-le (place + k - place) (drop place old) (omega (arith, length-drop place old)) ∙ omega arith) in
-    Scaled-from_parts k c.args.row c.args.factor (place + k - place) old c.loop-entry.entry-items c.requires.square c.requires.within (omega arith)
+    let long : length (take (position + k - position) (drop position old)) ≡ k = (length-take-le (position + k - position) (drop position old) (omega (arith, length-drop position old)) ∙ omega arith) in
+    Scaled-from_parts k c.args.row c.args.factor (position + k - position) old c.loop-entry.entry-items c.requires.square c.requires.within (omega arith)
     (c.loop-entry.auto.entry-items ∙ long) (λ j h. c.loop-entry.invariant.written j (omega (arith, long)))

@@ -1,19 +1,24 @@
-use Rattle.std.proofs.Common.{◌+◌, ◌*◌, ◌∙◌, ap, length, get_or, arith}
-use Rattle.std.specs.List.{between}
-use Rattle.std.proofs.lemmas.Nat.{row_fits}
-use Rattle.sw_gf256.specs.Field.{plus_multiple}
+use Rattle.std.proofs.Common.{◌≡◌, ◌*◌, ◌∙◌, refl, ap, length, take, drop, zero-mul, arith}
+use Rattle.std.proofs.lemmas.List.{take_min, drop_min, drop-drop}
 use Rattle.sw_cauchy.proofs.RowTimes.{row_times-none, row_times-more}
 use Rattle.sw_cauchy.proofs.rows.write_row_times.Goals as goal
 
-pub loop-j-init : goal.loop-j-init
-loop-j-init c = c.fill.ensures.after (λ y e. e) ∙ row_times-none _ _ _
+pub loop-factor-init : goal.loop-factor-init
+loop-factor-init c = record {
+  sum = c.fill.ensures.after (λ y e. e) ∙ row_times-none _ _ _;
+  rest = rw zero-mul refl;
+}
 
-pub loop-j-preserved : goal.loop-j-preserved
-loop-j-preserved c =
-    let j = c.loop-j.j in
+pub loop-factor-preserved : goal.loop-factor-preserved
+loop-factor-preserved c =
+    let j = c.loop-factor.factor-index in
     let width = length c.args.sum.now in
-    let row = c.args.row.now in
-    let piece = between (j * width) ((j + 1) * width) c.args.pieces.now in
-    c.mul_acc.ensures
-    ∙ ap (λ sum. plus_multiple sum piece (get_or row j 0)) c.loop-j.invariant
-    ∙ row_times-more j width (λ i. get_or row i 0) c.args.pieces.now (omega (arith, row_fits j width (length row) width c.loop-j-test.true (omega arith)))
+    let rest = c.loop-factor.rest.now in
+    let piece : c.split_at.result.0.now ≡ take width (drop (j * width) c.args.pieces.now) =
+    c.split_at.ensures.front ∙ ap (λ n. take n rest) c.min.ensures ∙ take_min width rest ∙ ap (take width) c.loop-factor.invariant.rest in
+    record {
+      sum = row_times-more j width _ c.args.pieces.now c.loop-factor.sum c.split_at.result.0.now c.mul_acc.new.dst c.loop-factor.invariant.sum piece c.mul_acc.ensures;
+      rest = c.split_at.ensures.back ∙ ap (λ n. drop n rest) c.min.ensures ∙ drop_min width rest
+          ∙ ap (drop width) c.loop-factor.invariant.rest ∙ drop-drop width (j * width) c.args.pieces.now
+          ∙ ap (λ n. drop n c.args.pieces.now) (omega arith);
+    }

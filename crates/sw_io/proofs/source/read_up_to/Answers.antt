@@ -1,13 +1,10 @@
-use Rattle.std.proofs.Common.{rules}
-use Rattle.sw_io.proofs.Pieces.{Consumes-appended}
+use Rattle.std.proofs.Common.{◌+◌, ◌≤◌, length, rules}
+use Rattle.std.proofs.lemmas.Result.{err_from_is_err_and}
+use Rattle.sw_io.proofs.Pieces.{ConsumesFront-more}
 use Rattle.sw_io.proofs.source.read_up_to.Goals as goal
 
-pub loop-bytes-preserved : goal.loop-bytes-preserved
-loop-bytes-preserved g c =
-    let step = c.append_piece.ensures in
-    record {
-      consumed = Consumes-appended _ _ _ _ _ step.appends c.loop-bytes.invariant.consumed c.in_ok-append_piece.ensures.bytes;
-      within = search rules;
-      never_falls = search rules;
-      room_left = search rules;
-    }
+pub returns-in_err-append_piece-clause-front : goal.returns-in_err-append_piece-clause-front
+returns-in_err-append_piece-clause-front g c =
+    let p = err_from_is_err_and c.from_residual-in_err-append_piece.result c.from_residual-in_err-append_piece.ensures.1 in
+    let room : length c.loop-bytes.bytes + length c.append_piece.new.room ≤ c.args.limit = search rules in
+    rw p.1 (ConsumesFront-more _ _ _ _ _ _ c.loop-bytes.invariant.consumed room c.in_err-append_piece.ensures.front)

@@ -1,6 +1,6 @@
 use Rattle.std.proofs.Common.{◌≡◌, drop}
 use Rattle.serde_json.specs.View.{items_view}
-use Rattle.sw_ring.specs.Fields.{each_item, whole_below}
+use Rattle.sw_ring.specs.Members.{each_item, whole_below}
 use Rattle.sw_ring.proofs.ItemByItem.{with_front}
 use Rattle.sw_ring.proofs.lists.row.Given as goal
 

@@ -1,6 +1,6 @@
 use Rattle.std.proofs.Common.{◌≡◌, drop, map}
 use Rattle.serde_json.specs.View.{items_view}
-use Rattle.sw_ring.specs.Fields.{each_item, list_of, whole_below}
+use Rattle.sw_ring.specs.Members.{each_item, list_of, whole_below}
 use Rattle.sw_ring.proofs.ItemByItem.{with_front}
 use Rattle.sw_ring.proofs.lists.row_list.Given as goal
 

@@ -8,4 +8,4 @@ pub returns : goal.returns
 unfolding generator_row
 returns c =
     fill_by_all (entry c.args.self.now.k c.args.i) _ c.args.self.now.k 0 (omega arith)
-    (λ place h. c.loop-j.invariant place (omega arith))
+    (λ position h. c.loop-j.invariant position (omega arith))

@@ -1,7 +1,7 @@
 use Rattle.std.proofs.Common.{[], ◌∷◌, refl, arith}
 use Rattle.std.proofs.lemmas.Slice.{pushed}
 use Rattle.sw_cauchy.specs.declared.gather.Gather.TheInside.{Inside}
-use Rattle.sw_cauchy.proofs.Shares.{may_add, room_for_bytes, IsGather-added, gathered-added}
+use Rattle.sw_cauchy.proofs.Shares.{may_add, room_for_bytes, IsGather-added, gather_model-added}
 use Rattle.sw_cauchy.proofs.gather.Gather.add.Goals as goal
 
 pub unwrap-requires : goal.unwrap-requires
@@ -36,7 +36,7 @@ returns c =
     let before = c.self.inside in
     let after : Inside = record { code = before.code; width = before.width; indices = c.push.new.self; bytes = c.extend_from_slice.new.self } in
     let may = may_add before c.args.self.now c.args.index c.args.fragment.now c.self.view_is c.self.invariant c.requires.below c.requires.new c.requires.width c.requires.room in
-    gathered-added before after c.args.self.now c.args.index c.args.fragment.now c.self.view_is may
+    gather_model-added before after c.args.self.now c.args.index c.args.fragment.now c.self.view_is may
     (record {
       code = refl;
       width = refl;

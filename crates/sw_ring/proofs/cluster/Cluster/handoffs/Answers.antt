@@ -9,4 +9,4 @@ returns c =
     let within = rw (← c.self.view_is) at c.requires in
     IfOk-weaker c.absent.result _ _ (λ devices e.
     rw (← c.self.view_is) ((rw (c.deref.ensures.value, c.deref-2.ensures.value) at e)
-    ∙ filter_agree _ _ (λ id. ap not (has_at_among c.args.part id _ _ c.self.invariant.places within)) _)) c.absent.ensures
+    ∙ filter_agree _ _ (λ id. ap not (has_at_among c.args.part id _ _ c.self.invariant.lengths within)) _)) c.absent.ensures

@@ -8,6 +8,7 @@ invariant_of-result c =
       rules = c.devices-device-items.ensures.rules;
       objects = [];
       stored = nodes_after-none c.args.cluster _ _ _ c.devices-device-items.ensures.listed (omega arith) c.each.invariant;
+      sound = search rules;
       few = omega arith;
     }
 
@@ -19,5 +20,5 @@ returns c =
       nodes = nodes_after-none c.args.cluster _ _ _ c.devices-device-items.ensures.listed (omega arith) c.each.invariant;
       operations = refl;
       puts = refl;
-      bytes = search rules;
+      sound = search rules;
     }

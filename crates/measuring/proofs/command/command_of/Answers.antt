@@ -1,0 +1,22 @@
+use Rattle.std.proofs.Common.{◌≡◌, List, [], ◌∷◌, length, map, drop, get_or, codes, string_bytes, sym, ap₂, ◌∙◌, arith}
+use Rattle.std.specs.Fmt.{decimal}
+use Rattle.std.proofs.lemmas.Bool.Decides.{Decides-eqb}
+use Rattle.std.proofs.lemmas.Slice.Eq.{slice_eq-Decides}
+use Rattle.measuring.proofs.command.command_of.Goals as goal
+
+-- what is made of the second and the third of three
+last_two : {A : Type 0} {B : Type 0} (f : A → B) (xs : List A) (second third : A) → length xs ≡ 3 → second ≡ get_or xs 1 second → third ≡ get_or xs 2 third
+    → drop 1 (map f xs) ≡ f second ∷ f third ∷ []
+last_two f [] second third long at_second at_third = absurd (omega arith)
+last_two f (x ∷ []) second third long at_second at_third = absurd (omega arith)
+last_two f (x ∷ y ∷ []) second third long at_second at_third = absurd (omega arith)
+last_two f (x ∷ y ∷ z ∷ []) second third long at_second at_third = ap₂ (λ a b. f a ∷ f b ∷ []) (sym at_second) (sym at_third)
+last_two f (x ∷ y ∷ z ∷ more ∷ xs) second third long at_second at_third = absurd (omega arith)
+
+pub returns-then-eq-clause-found : goal.returns-then-eq-clause-found
+returns-then-eq-clause-found c =
+    let measure : string_bytes c.index-words-1.result ≡ codes "measure" =
+    sym c.as_str.ensures.value ∙ (slice_eq-Decides Decides-eqb c.as_str.result.now (codes "measure") c.eq.result c.eq.ensures).0 c.if-eq.true in
+    let seconds : string_bytes c.index-words-2.result ≡ decimal c.in_ok-seconds.seconds = sym c.as_bytes.ensures.value ∙ c.in_ok-seconds.ensures.found in
+    last_two (λ word. string_bytes word) c.args.words.now c.index-words-1.result c.index-words-2.result c.if-words-eq3.true c.index-words-1.is c.index-words-2.is
+    ∙ ap₂ (λ first second. first ∷ second ∷ []) measure seconds

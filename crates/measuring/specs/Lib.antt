@@ -1,0 +1,4 @@
+pub mod Command
+pub mod Gathered
+pub mod Pattern
+pub mod Rate

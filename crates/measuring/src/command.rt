@@ -1,0 +1,30 @@
+//! What the words of the command line ask for.
+
+ghost use Rattle.std.specs.Prelude.{◌≡◌, ◌<◌, ◌^◌, ℕ, [], ◌∷◌, Some, IfSome, map, drop, string_bytes};
+ghost use Rattle.measuring.specs.Command.{measure_words, words_of};
+
+use sw_types::read_decimal;
+
+/// A command: with no words to try what is measured, with `measure SECONDS` to measure them.
+#[derive(Clone, Copy, Debug)]
+pub enum Command {
+    Try,
+    Measure { seconds: u64 },
+}
+
+/// The command that these words ask for, if they do. The first word is the program's name.
+pub fn command_of(words: &[String]) -> Option<Command>
+    ensures found { IfSome result (λ command. drop 1 (map (λ word. string_bytes word) words.now) ≡ words_of command) }
+    ensures tries { drop 1 (map (λ word. string_bytes word) words.now) ≡ [] → result ≡ Some Command.Try }
+    ensures measures { (seconds : ℕ) → seconds < 2 ^ 64 →
+        drop 1 (map (λ word. string_bytes word) words.now) ≡ measure_words seconds → result ≡ Some (Command.Measure seconds) }
+{
+    if words.len() <= 1 {
+        return Some(Command::Try);
+    }
+    if words.len() == 3 && words[1].as_str() == "measure" {
+        let seconds = read_decimal(words[2].as_bytes())?;
+        return Some(Command::Measure { seconds });
+    }
+    None
+}

@@ -1,0 +1,94 @@
+-- Bytes have one fault at most, and an archive has none.
+use Rattle.std.proofs.Common.{◌≡◌, ◌≤◌, ◌+◌, inl, inr, List, ℕ, length, Option, Some, None, Result, Ok, Err, sym, ap, subst, ◌∙◌, arith}
+use Rattle.std.specs.Prelude.{MatchResult}
+use Rattle.sw_words.specs.Memory.{UnlessMemory}
+use Rattle.sw_archive.specs.Archive.{ArchiveModel, IsArchive, IsSound, header_of}
+use Rattle.sw_archive.specs.Fault.{IsFault, IsFirstFault, IsLateFault, Opens, early_fault}
+use Rattle.sw_archive.specs.Header.{HeaderModel}
+use Rattle.sw_archive.specs.Reading.{IsReadBehind}
+use Rattle.sw_archive.specs.declared.archive.Archive.{Archive}
+use Rattle.sw_archive.specs.declared.fault.ArchiveFault.{ArchiveFault}
+use Rattle.sw_archive.specs.declared.fault.ArchiveFault.TheVariants.{NoMemory}
+use Rattle.sw_archive.proofs.Archives.{archive_opens, behind, head_in-behind, one_archive, path_in-behind}
+use Rattle.sw_archive.proofs.Openings.{one_opening}
+use Rattle.sw_archive.proofs.Readings.{archive_faultless, faultless, no_early_fault, read_is_archive}
+
+-- ---- an archive has no fault
+
+no_late_fault : (archive : ArchiveModel) (fault : ArchiveFault) → IsSound archive → IsLateFault (header_of archive) (behind archive) fault → ⊥
+no_late_fault archive fault sound (inl name) = name.1 archive.name (record { rules = sound.name; spelled = path_in-behind archive })
+no_late_fault archive fault sound (inr (inl head)) = head.2 archive.head (record { rules = sound.head; spelled = head_in-behind archive })
+no_late_fault archive fault sound (inr (inr payload)) = payload.3 sound.payload
+
+none_or_some : {A : Type 0} (o : Option A) (x : A) → o ≡ None → o ≡ Some x → ⊥
+none_or_some o x none some = absurd (cc)
+
+no_first_fault : (bytes : List ℕ) (archive : ArchiveModel) (fault : ArchiveFault) → IsArchive bytes archive → IsFirstFault bytes (header_of archive) (behind archive) fault → ⊥
+no_first_fault bytes archive fault is (inl early) =
+    none_or_some (early_fault bytes (header_of archive)) fault (no_early_fault bytes (header_of archive) (archive_faultless bytes archive is)) early
+no_first_fault bytes archive fault is (inr late) = no_late_fault archive fault is.sound late.1
+
+-- the first fault behind one opening is that behind another
+moved : (bytes : List ℕ) (fault : ArchiveFault) (g h : HeaderModel) (x y : List ℕ) → Opens bytes g x → Opens bytes h y → IsFirstFault bytes g x fault → IsFirstFault bytes h y fault
+moved bytes fault g h x y g_opens h_opens first =
+    let same = one_opening g h x y g_opens.fits h_opens.fits (sym g_opens.spelled ∙ h_opens.spelled) in
+    subst (λ (rest : List ℕ). IsFirstFault bytes h rest fault) same.1 (subst (λ (header : HeaderModel). IsFirstFault bytes header x fault) same.0 first)
+
+pub no_fault : (bytes : List ℕ) (archive : ArchiveModel) (fault : ArchiveFault) → IsArchive bytes archive → IsFault bytes fault → ⊥
+no_fault bytes archive fault is (inl short) = let whole = archive_faultless bytes archive is in absurd (omega (arith, whole.length, short.0))
+no_fault bytes archive fault is (inr long) =
+    no_first_fault bytes archive fault is (moved bytes fault long.1.header (header_of archive) long.1.rest (behind archive) long.1.opens (archive_opens bytes archive is) long.1.first)
+
+-- ---- there is one fault
+
+one_late_fault : (h : HeaderModel) (rest : List ℕ) (a b : ArchiveFault) → IsLateFault h rest a → IsLateFault h rest b → a ≡ b
+one_late_fault h rest a b (inl x) (inl y) = x.0 ∙ sym y.0
+one_late_fault h rest a b (inl x) (inr (inl y)) = absurd (x.1 y.1.0 y.1.1)
+one_late_fault h rest a b (inl x) (inr (inr y)) = absurd (x.1 y.1.0 y.1.1)
+one_late_fault h rest a b (inr (inl x)) (inl y) = absurd (y.1 x.1.0 x.1.1)
+one_late_fault h rest a b (inr (inl x)) (inr (inl y)) = x.0 ∙ sym y.0
+one_late_fault h rest a b (inr (inl x)) (inr (inr y)) = absurd (x.2 y.2.0 y.2.1)
+one_late_fault h rest a b (inr (inr x)) (inl y) = absurd (y.1 x.1.0 x.1.1)
+one_late_fault h rest a b (inr (inr x)) (inr (inl y)) = absurd (y.2 x.2.0 x.2.1)
+one_late_fault h rest a b (inr (inr x)) (inr (inr y)) = x.0 ∙ sym y.0
+
+one_some : {A : Type 0} (o : Option A) (x y : A) → o ≡ Some x → o ≡ Some y → x ≡ y
+one_some o x y first second = cc
+
+one_first_fault : (bytes : List ℕ) (h : HeaderModel) (rest : List ℕ) (a b : ArchiveFault) → IsFirstFault bytes h rest a → IsFirstFault bytes h rest b → a ≡ b
+one_first_fault bytes h rest a b (inl x) (inl y) = one_some (early_fault bytes h) a b x y
+one_first_fault bytes h rest a b (inl x) (inr y) = absurd (none_or_some (early_fault bytes h) a y.0 x)
+one_first_fault bytes h rest a b (inr x) (inl y) = absurd (none_or_some (early_fault bytes h) b x.0 y)
+one_first_fault bytes h rest a b (inr x) (inr y) = one_late_fault h rest a b x.1 y.1
+
+pub one_fault : (bytes : List ℕ) (a b : ArchiveFault) → IsFault bytes a → IsFault bytes b → a ≡ b
+one_fault bytes a b (inl x) (inl y) = x.1 ∙ sym y.1
+one_fault bytes a b (inl x) (inr y) = absurd (omega (arith, x.0, y.0))
+one_fault bytes a b (inr x) (inl y) = absurd (omega (arith, x.0, y.0))
+one_fault bytes a b (inr x) (inr y) =
+    one_first_fault bytes y.1.header y.1.rest a b (moved bytes a x.1.header y.1.header x.1.rest y.1.rest x.1.opens y.1.opens x.1.first) y.1.first
+
+-- ---- what reading answers
+
+-- the answer is the archive that the bytes spell, or their first fault
+abbrev pub Answers : List ℕ → Result Archive ArchiveFault → Type 0
+Answers bytes result = MatchResult result (λ archive. IsArchive bytes archive) (λ fault. UnlessMemory NoMemory fault (IsFault bytes fault))
+
+pub reads : (bytes : List ℕ) (result : Result Archive ArchiveFault) → Answers bytes result
+    → (archive : ArchiveModel) → IsArchive bytes archive → UnlessMemory (Err NoMemory) result (result ≡ Ok archive)
+reads bytes (Ok found) answers archive is = λ other. ap (λ (a : Archive). Ok a) (one_archive bytes found archive answers is)
+reads bytes (Err fault) answers archive is = λ other. absurd (no_fault bytes archive fault is (answers (λ same. other (ap (λ (f : ArchiveFault). Err f) same))))
+
+pub refused : (bytes : List ℕ) (result : Result Archive ArchiveFault) → Answers bytes result
+    → (fault : ArchiveFault) → IsFault bytes fault → UnlessMemory (Err NoMemory) result (result ≡ Err fault)
+refused bytes (Ok found) answers fault at = λ other. absurd (no_fault bytes found fault answers at)
+refused bytes (Err found) answers fault at =
+    λ other. ap (λ (f : ArchiveFault). Err f) (one_fault bytes found fault (answers (λ same. other (ap (λ (f : ArchiveFault). Err f) same))) at)
+
+-- what is read behind a header without a fault is the answer
+pub read_behind : (bytes : List ℕ) (h : HeaderModel) (rest : List ℕ) (result : Result Archive ArchiveFault) → 68 ≤ length bytes → Opens bytes h rest → early_fault bytes h ≡ None
+    → length rest + 52 ≡ length bytes → MatchResult result (λ archive. IsReadBehind h rest archive) (λ fault. UnlessMemory NoMemory fault (IsLateFault h rest fault))
+    → Answers bytes result
+read_behind bytes h rest (Ok archive) long opens none whole read = read_is_archive bytes h rest archive opens (faultless bytes h none) whole read
+read_behind bytes h rest (Err fault) long opens none whole late =
+    λ other. inr (long, record { header = h; rest = rest; opens = opens; first = inr (none, late other) })

@@ -1,0 +1,152 @@
+-- What archives that stand beside one another give: an object, and further archives.
+use Rattle.std.proofs.Common.{◌≡◌, ◌<◌, ℕ, zero, suc, ◌+◌, List, [], ◌∷◌, ◌++◌, length, get_or, Result, Ok, Err, refl, sym, ap, subst, ◌∙◌, arith}
+use Rattle.std.specs.List.{All}
+use Rattle.std.proofs.lemmas.List.{get_or_read}
+use Rattle.md5.specs.Md5.{md5}
+use Rattle.sw_words.specs.Memory.{UnlessMemory}
+use Rattle.sw_types.specs.Head.{HeadModel}
+use Rattle.sw_types.specs.Name.{NameModel}
+use Rattle.sw_types.specs.Object.{ObjectModel}
+use Rattle.sw_types.specs.Policy.{PolicyModel}
+use Rattle.sw_archive.specs.Archive.{ArchiveModel, IsSound, archive_bytes, checked, payload_length}
+use Rattle.sw_archive.specs.Assemble.{AreAlike, AreEnough, AreTogether, GivesObject, IsFurther}
+use Rattle.sw_archive.specs.Decoding.{IsRebuilt}
+use Rattle.sw_archive.specs.Put.{AreOfBody, AreOfPut, IsPut, payload, put_archive, put_fields}
+use Rattle.sw_archive.specs.declared.assemble.AssembleFault.{AssembleFault}
+use Rattle.sw_archive.specs.declared.assemble.AssembleFault.TheVariants.{BodyMd5, NoMemory}
+use Rattle.sw_archive.proofs.Archives.{same_archive}
+
+-- ---- the first archive
+
+abbrev pub no_archive : ArchiveModel
+no_archive = record {
+  k = 0;
+  m = 0;
+  index = 0;
+  segment = 0;
+  stamp = 0;
+  body_length = 0;
+  body_md5 = [];
+  name = record { account = []; container = []; object = [] };
+  head = record { content_type = []; pairs = [] };
+  payload = [];
+}
+
+-- where k archives are there, there is a first one
+pub some_archive : (archives : List ArchiveModel) → AreEnough archives → 0 < length archives
+some_archive [] enough = absurd enough
+some_archive (first ∷ others) enough = omega arith
+
+-- there are as many as its k
+pub count_of_first : (archives : List ArchiveModel) (first : ArchiveModel) → AreEnough archives → first ≡ get_or archives 0 first → length archives ≡ first.k
+count_of_first [] first enough is = absurd enough
+count_of_first (one ∷ others) first enough is = enough ∙ ap (λ (a : ArchiveModel). a.k) (sym is)
+
+-- each is alike to it
+pub alike_to_first : (archives : List ArchiveModel) (first : ArchiveModel) → AreEnough archives → AreTogether archives → first ≡ get_or archives 0 first → All (AreAlike first) archives
+alike_to_first archives first enough together is zero other below = subst (AreAlike first) (get_or_read archives 0 first (some_archive archives enough) is other) refl
+alike_to_first archives first enough together is (suc position) other below =
+    subst (λ (a : ArchiveModel). AreAlike a (get_or archives (suc position) other)) (sym (get_or_read archives 0 first (some_archive archives enough) is other)) (together.alike 0 (suc position) other (omega arith) below)
+
+-- ---- an object
+
+abbrev object : HeadModel → List ℕ → List ℕ → ObjectModel
+object head body body_md5 = record { head = head; body = body; body_md5 = body_md5 }
+
+same_object : (a b : ObjectModel) → a.head ≡ b.head → a.body ≡ b.body → a.body_md5 ≡ b.body_md5 → a ≡ b
+same_object a b head body body_md5 =
+    let all : object a.head a.body a.body_md5 ≡ object b.head b.body b.body_md5 = cc in all
+
+-- what each of a put's archives tells
+put_told : (policy : PolicyModel) (stamp : ℕ) (name : NameModel) (object : ObjectModel) (archives : List ArchiveModel) → AreOfPut policy stamp name object archives → AreEnough archives
+    → let first = get_or archives 0 no_archive in first ≡ put_fields policy stamp name object first.index
+put_told policy stamp name object archives of enough = of 0 no_archive (some_archive archives enough)
+
+-- the payloads of a put's archives are those of its body
+pub body_of_put : (policy : PolicyModel) (stamp : ℕ) (name : NameModel) (object : ObjectModel) (archives : List ArchiveModel) → IsPut policy stamp name object → AreOfPut policy stamp name object archives
+    → AreOfBody archives object.body
+body_of_put policy stamp name object archives put of = record {
+  bytes = put.object_rules.bytes;
+  lengths = λ position other below. ap (λ (a : ArchiveModel). a.body_length) (of position other below);
+  payloads = λ position other below.
+      let at = get_or archives position other in
+      let is = of position other below in
+      ap (λ (a : ArchiveModel). a.payload) is
+      ∙ sym (ap (λ (a : ArchiveModel). payload a.k at.segment object.body at.index) is ∙ ap (λ (a : ArchiveModel). payload policy.k a.segment object.body at.index) is);
+}
+
+-- of a put's archives the answer is the object
+pub object_of_put : (archives : List ArchiveModel) (result : Result ObjectModel AssembleFault) → GivesObject archives result → AreEnough archives
+    → (policy : PolicyModel) (stamp : ℕ) (name : NameModel) (object : ObjectModel) → IsPut policy stamp name object → AreOfPut policy stamp name object archives
+    → UnlessMemory (Err NoMemory) result (result ≡ Ok object)
+object_of_put archives (Ok read) gives enough policy stamp name object put of = λ other.
+    let some = some_archive archives enough in
+    let first = put_told policy stamp name object archives of enough in
+    ap (λ (o : ObjectModel). Ok o)
+    (same_object read object (gives.head 0 no_archive some ∙ ap (λ (a : ArchiveModel). a.head) first) (gives.body object.body (body_of_put policy stamp name object archives put of))
+    (gives.body_md5 0 no_archive some ∙ ap (λ (a : ArchiveModel). a.body_md5) first))
+object_of_put archives (Err (BodyMd5 told computed)) gives enough policy stamp name object put of = λ other.
+    let first = put_told policy stamp name object archives of enough in
+    absurd (gives.differs (gives.tells 0 no_archive (some_archive archives enough) ∙ ap (λ (a : ArchiveModel). a.body_md5) first ∙ put.object_rules.body_md5
+    ∙ sym (gives.body object.body (body_of_put policy stamp name object archives put of))))
+object_of_put archives (Err NoMemory) gives enough policy stamp name object put of = λ other. absurd (other refl)
+
+-- ---- a further archive
+
+-- the first one, with another index and payload
+pub further_archive : (archives : List ArchiveModel) (first : ArchiveModel) (index : ℕ) (old new bytes : List ℕ) → AreEnough archives → AreTogether archives → first ≡ get_or archives 0 first → IsSound first
+    → All (λ archive. index < archive.k + archive.m) archives → (rebuilt : IsRebuilt archives index old new)
+    → ((fragments : List ℕ) → length fragments ≡ payload_length first.k first.segment first.body_length → old ++ fragments ≡ checked (record first { index = index; payload = fragments }))
+    → bytes ≡ new ++ md5 new → IsFurther archives index bytes
+further_archive archives first index old new bytes enough together is sound below rebuilt opens sealed =
+    let some = some_archive archives enough in
+    let there : get_or archives 0 first ≡ first = sym is in
+    let reach : length rebuilt.added ≡ payload_length first.k first.segment first.body_length =
+    subst (λ (a : ArchiveModel). length rebuilt.added ≡ payload_length a.k a.segment a.body_length) there (rebuilt.reach 0 first some) in
+    let archive : ArchiveModel = record first { index = index; payload = rebuilt.added } in
+    let written : new ≡ checked archive = rebuilt.appended ∙ opens rebuilt.added reach in
+    let alike = alike_to_first archives first enough together is in
+    record {
+      archive = archive;
+      spelled = record {
+        sound = record {
+          code = sound.code;
+          index = subst (λ (a : ArchiveModel). index < a.k + a.m) there (below 0 first some);
+          stamp = sound.stamp;
+          body_length = sound.body_length;
+          body_md5 = sound.body_md5;
+          name = sound.name;
+          head = sound.head;
+          payload = reach;
+        };
+        spelled = sealed ∙ ap (λ (b : List ℕ). b ++ md5 b) written;
+      };
+      indexed = refl;
+      alike = λ position other within.
+          let at = get_or archives position other in
+          let same = alike position other within in
+          same_archive at (record archive { index = at.index; payload = at.payload }) (sym (ap (λ (a : ArchiveModel). a.k) same)) (sym (ap (λ (a : ArchiveModel). a.m) same)) refl
+          (sym (ap (λ (a : ArchiveModel). a.segment) same)) (sym (ap (λ (a : ArchiveModel). a.stamp) same)) (sym (ap (λ (a : ArchiveModel). a.body_length) same))
+          (sym (ap (λ (a : ArchiveModel). a.body_md5) same)) (sym (ap (λ (a : ArchiveModel). a.name) same)) (sym (ap (λ (a : ArchiveModel). a.head) same)) refl;
+      body = λ body of.
+          subst (λ (a : ArchiveModel). rebuilt.added ≡ payload a.k a.segment body index) there (rebuilt.body body of 0 first some);
+    }
+
+-- of a put's archives it is that of the put
+pub further_of_put : (archives : List ArchiveModel) (index : ℕ) (bytes : List ℕ) → IsFurther archives index bytes → AreEnough archives
+    → (policy : PolicyModel) (stamp : ℕ) (name : NameModel) (object : ObjectModel) → IsPut policy stamp name object → AreOfPut policy stamp name object archives
+    → bytes ≡ put_archive policy stamp name object index
+further_of_put archives index bytes further enough policy stamp name object put of =
+    let archive = further.archive in
+    let first = put_told policy stamp name object archives of enough in
+    let alike = further.alike 0 no_archive (some_archive archives enough) in
+    let k : archive.k ≡ policy.k = sym (ap (λ (a : ArchiveModel). a.k) alike) ∙ ap (λ (a : ArchiveModel). a.k) first in
+    let segment : archive.segment ≡ policy.segment = sym (ap (λ (a : ArchiveModel). a.segment) alike) ∙ ap (λ (a : ArchiveModel). a.segment) first in
+    let fragments = further.body object.body (body_of_put policy stamp name object archives put of)
+    ∙ ap (λ n. payload n archive.segment object.body index) k ∙ ap (λ n. payload policy.k n object.body index) segment in
+    further.spelled.spelled
+    ∙ ap archive_bytes
+    (same_archive archive (put_fields policy stamp name object index) k (sym (ap (λ (a : ArchiveModel). a.m) alike) ∙ ap (λ (a : ArchiveModel). a.m) first) further.indexed segment
+    (sym (ap (λ (a : ArchiveModel). a.stamp) alike) ∙ ap (λ (a : ArchiveModel). a.stamp) first) (sym (ap (λ (a : ArchiveModel). a.body_length) alike) ∙ ap (λ (a : ArchiveModel). a.body_length) first)
+    (sym (ap (λ (a : ArchiveModel). a.body_md5) alike) ∙ ap (λ (a : ArchiveModel). a.body_md5) first) (sym (ap (λ (a : ArchiveModel). a.name) alike) ∙ ap (λ (a : ArchiveModel). a.name) first)
+    (sym (ap (λ (a : ArchiveModel). a.head) alike) ∙ ap (λ (a : ArchiveModel). a.head) first) fragments)

@@ -1,0 +1,8 @@
+use Rattle.sw_archive.proofs.Faults.{no_fault, one_fault}
+use Rattle.sw_archive.proofs.laws.fault_law.Goals as goal
+
+pub returns-clause-not_both : goal.returns-clause-not_both
+returns-clause-not_both c = no_fault
+
+pub returns-clause-one : goal.returns-clause-one
+returns-clause-one c = one_fault

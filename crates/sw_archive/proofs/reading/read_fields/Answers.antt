@@ -1,0 +1,10 @@
+use Rattle.std.proofs.Common.{sym}
+use Rattle.sw_archive.proofs.Faults.{read_behind}
+use Rattle.sw_archive.proofs.Readings.{faultless}
+use Rattle.sw_archive.proofs.reading.read_fields.Goals as goal
+
+pub read_behind-requires-clause-numbers : goal.read_behind-requires-clause-numbers
+read_behind-requires-clause-numbers c = (faultless c.args.bytes.now c.read-header.result.0 (sym c.in_default.ensures)).numbers
+
+pub returns : goal.returns
+returns c = read_behind c.args.bytes.now c.read-header.result.0 c.read-header.result.1.now c.read_behind.result c.if-bytes-lt68.false c.read-header.ensures.opens (sym c.in_default.ensures) c.read-header.ensures.rest c.read_behind.ensures

@@ -1,0 +1,10 @@
+pub mod Alike
+pub mod Archive
+pub mod Assemble
+pub mod Decoding
+pub mod Fault
+pub mod Header
+pub mod Label
+pub mod Parts
+pub mod Put
+pub mod Reading

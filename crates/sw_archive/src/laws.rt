@@ -1,0 +1,27 @@
+//! Laws of the definitions, each the contract of a function without arguments.
+
+ghost use Rattle.std.specs.Prelude.{◌≡◌, ◌<◌, ◌+◌, ◌++◌, List, ℕ, []};
+ghost use Rattle.sw_types.specs.Name.{NameModel};
+ghost use Rattle.sw_types.specs.Object.{ObjectModel};
+ghost use Rattle.sw_types.specs.Policy.{PolicyModel};
+ghost use Rattle.sw_archive.specs.Archive.{ArchiveModel, IsArchive};
+ghost use Rattle.sw_archive.specs.Fault.{IsFault};
+ghost use Rattle.sw_archive.specs.Put.{IsPut, put_archive, put_fields};
+ghost use Rattle.sw_archive.specs.declared.fault.ArchiveFault.{ArchiveFault as Fault};
+
+/// What is put has archives, with the fields of the put.
+pub fn put_law()
+    ensures archive { (policy : PolicyModel) (stamp : ℕ) (name : NameModel) (object : ObjectModel) (index : ℕ) → IsPut policy stamp name object → index < policy.k + policy.m →
+        IsArchive (put_archive policy stamp name object index) (put_fields policy stamp name object index) }
+{}
+
+/// No archive is a proper prefix of another, and the bytes of an archive are those of one archive alone.
+pub fn archive_law()
+    ensures no_prefix { (a b rest : List ℕ) (first second : ArchiveModel) → IsArchive a first → IsArchive b second → a ≡ b ++ rest → (first ≡ second) × (rest ≡ []) }
+{}
+
+/// Bytes are an archive or have a fault, and not both, and they have one fault at most.
+pub fn fault_law()
+    ensures not_both { (bytes : List ℕ) (archive : ArchiveModel) (fault : Fault) → IsArchive bytes archive → ¬ (IsFault bytes fault) }
+    ensures one { (bytes : List ℕ) (first second : Fault) → IsFault bytes first → IsFault bytes second → first ≡ second }
+{}

@@ -1,0 +1,25 @@
+//! Archives: what a device keeps of an object. An archive has one fragment of each of the object's segments, behind a header
+//! that tells which, and ends with an MD5 of itself.
+#![tactic(auto)]
+
+mod archive;
+mod assemble;
+mod decoding;
+mod fault;
+mod header;
+mod label;
+mod laws;
+mod making;
+mod parts;
+mod payload;
+mod reading;
+
+pub use crate::archive::Archive;
+pub use crate::assemble::{Assemble, AssembleFault};
+pub use crate::fault::{ArchiveFault, ArchiveField};
+pub use crate::laws::{archive_law, fault_law, put_law};
+pub use crate::making::make_archive;
+pub use crate::reading::read_archive;
+
+#[cfg(test)]
+mod tests;
