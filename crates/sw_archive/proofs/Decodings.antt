@@ -1,25 +1,21 @@
 -- Fragments of archives are gathered and decoded, segment after segment.
-use Rattle.std.proofs.Common.{◌≡◌, ◌≢◌, ◌≤◌, ◌<◌, ℕ, ◌+◌, ◌-◌, ◌*◌, List, [], ◌∷◌, ◌++◌, length, take, drop, map, min, get_or, Result, sym, ap, subst, ◌∙◌, inl, inr, arith, append_assoc, length-append, length-drop, length-take}
+use Rattle.std.proofs.Common.{◌≡◌, ◌≢◌, ◌≤◌, ◌<◌, ℕ, ◌+◌, ◌-◌, ◌*◌, List, [], ◌∷◌, ◌++◌, length, take, drop, map, min, get_or, refl, sym, ap, subst, ◌∙◌, inl, inr, arith, append_assoc, length-take}
 use Rattle.std.specs.List.{All, AllPairs}
-use Rattle.std.specs.Result.{IfOk}
 use Rattle.std.proofs.lemmas.Bool.{cases_lt}
-use Rattle.std.proofs.lemmas.List.{append-nil, drop-drop, drop_at, get_or-take, get_or_read, map-append, take-append-drop, take_at, take_more}
+use Rattle.std.proofs.lemmas.List.{append-nil, drop-drop, drop_at, get_or-take, get_or_read, map-append, take_at, take_more}
 use Rattle.std.proofs.lemmas.List.Elements.{All-map}
-use Rattle.std.proofs.Math.ListN.{drop_of_length-le}
-use Rattle.std.proofs.Math.Seq.{take-add}
 use Rattle.sw_words.specs.Bytes.{IsBytes}
-use Rattle.sw_words.proofs.ByteLists.{IsBytes-drop, IsBytes-take}
 use Rattle.sw_cauchy.specs.Share.{AreFragments, GatherModel, Share}
-use Rattle.sw_cauchy.specs.Stripe.{fragment, fragment_width, padded, segment_fragment}
-use Rattle.sw_cauchy.proofs.Fragments.{IsBytes-padded, length-padded, length-segment_fragment, take-padded}
+use Rattle.sw_cauchy.specs.Stripe.{fragment, fragment_width}
+use Rattle.sw_cauchy.proofs.Fragments.{length-fragment}
 use Rattle.sw_archive.specs.Archive.{ArchiveModel, IsSound, payload_length}
 use Rattle.sw_archive.specs.Assemble.{AreEnough, AreTogether}
-use Rattle.sw_archive.specs.Decoding.{AreLaidOut, AreReached, HaveSegment, IsRebuilt, laid_length, share_at}
-use Rattle.sw_archive.specs.Put.{AreOfBody, payload}
+use Rattle.sw_archive.specs.Decoding.{AreLaidOut, AreLeft, AreReached, HavePieces, IsRebuilt, laid_length, share_at}
+use Rattle.sw_archive.specs.Pieces.{AreOfPieces, ArePieces, IsDecoded, joined_fragments, joined_segments}
 use Rattle.sw_archive.specs.declared.decoding.Layout.{Layout}
 use Rattle.sw_archive.proofs.Archives.{code_bounds}
 use Rattle.sw_archive.proofs.Objects.{alike_to_first, count_of_first, no_archive}
-use Rattle.sw_archive.proofs.Payloads.{payload-cut, payload-nil, payload_length-last, payload_length-le, payload_length-step, payload_length-zero}
+use Rattle.sw_archive.proofs.Payloads.{payload_length-last, payload_length-le, payload_length-step, payload_length-zero}
 
 -- ---- fragments are gathered
 
@@ -54,49 +50,21 @@ gathered_more k m width offset archives position archive gather new index bytes 
 
 -- ---- what was gathered is decoded
 
--- the shares are fragments of a segment
-pub shares_are_fragments : (k width offset : ℕ) (segment : List ℕ) (archives : List ArchiveModel) → width ≡ fragment_width k (length segment) → HaveSegment k offset segment archives
-    → AreFragments k width (padded k segment) (map (share_at offset width) archives)
-shares_are_fragments k width offset segment archives width_is have =
-    All-map (λ (share : Share). share.bytes ≡ fragment k width (padded k segment) share.index) (share_at offset width) archives
-    (λ position archive below.
-    let at = get_or archives position archive in
-    ap (λ n. take n (drop offset at.payload)) width_is ∙ have position archive below ∙ ap (λ n. fragment k n (padded k segment) at.index) (sym width_is))
+-- the shares are fragments of the pieces that the payloads have there
+shares_are_fragments : (k width offset : ℕ) (pieces : List ℕ) (archives : List ArchiveModel) → HavePieces k offset width pieces archives → AreFragments k width pieces (map (share_at offset width) archives)
+shares_are_fragments k width offset pieces archives have =
+    All-map (λ (share : Share). share.bytes ≡ fragment k width pieces share.index) (share_at offset width) archives (λ position archive below. have position archive below)
 
-module _ (k m width offset count : ℕ) (archives : List ArchiveModel) (gather : GatherModel) (some : 1 ≤ k)
-    (gathered : gather ≡ gather_of k m width (map (share_at offset width) archives)) (width_is : width ≡ fragment_width k count) where
-  -- what is decoded from any pieces, at those of a segment
-  at_segment : (Decoded : List ℕ → Type 0)
-      → ((pieces : List ℕ) → IsBytes pieces → length pieces ≡ gather.k * gather.width → AreFragments gather.k gather.width pieces gather.shares → Decoded pieces)
-      → (segment : List ℕ) → IsBytes segment → length segment ≡ count → HaveSegment k offset segment archives → Decoded (padded k segment)
-  at_segment Decoded decodes segment bytes counted have =
-      let wide : width ≡ fragment_width k (length segment) = width_is ∙ ap (fragment_width k) (sym counted) in
-      let whole : length (padded k segment) ≡ k * width = length-padded k segment some ∙ ap (λ n. k * n) (sym wide) in
-      let shares = shares_are_fragments k width offset segment archives wide have in
-      decodes (padded k segment) (IsBytes-padded k segment bytes)
-      (whole ∙ ap (λ (g : GatherModel). g.k * g.width) (sym gathered))
-      (subst (λ (g : GatherModel). AreFragments g.k g.width (padded k segment) g.shares) (sym gathered) shares)
-
-  -- the segment
-  pub segment_decoded : {E : Type 0} (result : Result (List ℕ) E)
-      → ((pieces : List ℕ) → IsBytes pieces → length pieces ≡ gather.k * gather.width → AreFragments gather.k gather.width pieces gather.shares → IfOk result (λ segment. segment ≡ take count pieces))
-      → (segment : List ℕ) → IsBytes segment → length segment ≡ count → HaveSegment k offset segment archives → IfOk result (λ decoded. decoded ≡ segment)
-  segment_decoded result decodes segment bytes counted have =
-      let front : take count (padded k segment) ≡ segment = ap (λ n. take n (padded k segment)) (sym counted) ∙ take-padded k segment in
-      subst (λ (w : List ℕ). IfOk result (λ decoded. decoded ≡ w)) front
-      (at_segment (λ pieces. IfOk result (λ decoded. decoded ≡ take count pieces)) decodes segment bytes counted have)
-
-  -- another fragment
-  pub fragment_rebuilt : {E : Type 0} (result : Result (List ℕ) E) (index : ℕ)
-      → ((pieces : List ℕ) → IsBytes pieces → length pieces ≡ gather.k * gather.width → AreFragments gather.k gather.width pieces gather.shares
-      → IfOk result (λ bytes. bytes ≡ fragment gather.k gather.width pieces index))
-      → (segment : List ℕ) → IsBytes segment → length segment ≡ count → HaveSegment k offset segment archives → IfOk result (λ bytes. bytes ≡ segment_fragment k segment index)
-  fragment_rebuilt result index decodes segment bytes counted have =
-      let wide : width ≡ fragment_width k (length segment) = width_is ∙ ap (fragment_width k) (sym counted) in
-      let same : fragment gather.k gather.width (padded k segment) index ≡ segment_fragment k segment index =
-      ap (λ (g : GatherModel). fragment g.k g.width (padded k segment) index) gathered ∙ ap (λ n. fragment k n (padded k segment) index) wide in
-      subst (λ (w : List ℕ). IfOk result (λ bytes. bytes ≡ w)) same
-      (at_segment (λ pieces. IfOk result (λ bytes. bytes ≡ fragment gather.k gather.width pieces index)) decodes segment bytes counted have)
+-- what is decoded from any pieces, at those
+pub decoded_there : (k m width offset count : ℕ) (archives : List ArchiveModel) (gather : GatherModel) → gather ≡ gather_of k m width (map (share_at offset width) archives) → width ≡ fragment_width k count
+    → (Decoded : ℕ → ℕ → List ℕ → Type 0)
+    → ((pieces : List ℕ) → IsBytes pieces → length pieces ≡ gather.k * gather.width → AreFragments gather.k gather.width pieces gather.shares → Decoded gather.k gather.width pieces)
+    → (pieces : List ℕ) → IsBytes pieces → length pieces ≡ k * fragment_width k count → HavePieces k offset (fragment_width k count) pieces archives → Decoded k (fragment_width k count) pieces
+decoded_there k m width offset count archives gather gathered width_is Decoded decodes pieces bytes whole have =
+    let wide : ℕ = fragment_width k count in
+    let same : gather ≡ gather_of k m wide (map (share_at offset wide) archives) = gathered ∙ ap (λ w. gather_of k m w (map (share_at offset w) archives)) width_is in
+    subst (λ (g : GatherModel). (pieces : List ℕ) → IsBytes pieces → length pieces ≡ g.k * g.width → AreFragments g.k g.width pieces g.shares → Decoded g.k g.width pieces) same decodes
+    pieces bytes whole (shares_are_fragments k wide offset pieces archives have)
 
 -- ---- one segment after the other
 
@@ -136,11 +104,21 @@ laid_out layout archives first enough together is sound k m size total =
       distinct = together.distinct;
     }
 
--- how long the body of their payloads is
-pub length_of_body : (layout : Layout) (archives : List ArchiveModel) (body : List ℕ) → AreLaidOut layout archives → AreOfBody archives body → length body ≡ layout.total
-length_of_body layout archives body laid of =
-    let some : 0 < length archives = omega (arith, laid.count, layout.code.some_data) in
-    sym (of.lengths 0 no_archive some) ∙ (laid.alike 0 no_archive some).3
+-- what holds of the numbers of one of them holds of the layout's
+as_laid_out : (layout : Layout) (archives : List ArchiveModel) → AreLaidOut layout archives → (position : ℕ) (other : ArchiveModel) → position < length archives → (P : ℕ → ℕ → ℕ → Type 0)
+    → let at = get_or archives position other in P at.k at.segment at.body_length → P layout.code.k layout.size layout.total
+as_laid_out layout archives laid position other below P holds =
+    let at = get_or archives position other in
+    let same = laid.alike position other below in
+    subst (λ n. P layout.code.k layout.size n) same.3 (subst (λ n. P layout.code.k n at.body_length) same.2 (subst (λ n. P n at.segment at.body_length) same.0 holds))
+
+-- and the other way round
+laid_out_as : (layout : Layout) (archives : List ArchiveModel) → AreLaidOut layout archives → (position : ℕ) (other : ArchiveModel) → position < length archives → (P : ℕ → ℕ → ℕ → Type 0)
+    → let at = get_or archives position other in P layout.code.k layout.size layout.total → P at.k at.segment at.body_length
+laid_out_as layout archives laid position other below P holds =
+    let at = get_or archives position other in
+    let same = laid.alike position other below in
+    subst (λ n. P n at.segment at.body_length) (sym same.0) (subst (λ n. P layout.code.k n at.body_length) (sym same.2) (subst (λ n. P layout.code.k layout.size n) (sym same.3) holds))
 
 -- how far the payload of one of them reaches
 pub payload_reaches : (layout : Layout) (archives : List ArchiveModel) (position : ℕ) (archive : ArchiveModel) → AreLaidOut layout archives → position < length archives → archive ≡ get_or archives position archive
@@ -152,19 +130,33 @@ payload_reaches layout archives position archive laid below is sound =
 pub laid_length-le : (layout : Layout) (archives : List ArchiveModel) → AreLaidOut layout archives → laid_length layout ≤ layout.total
 laid_length-le layout archives laid = payload_length-le layout.code.k layout.size layout.total (omega (arith, layout.code.some_data)) laid.size
 
--- no segment is behind at first
-pub none_reached : (layout : Layout) (archives : List ArchiveModel) → AreLaidOut layout archives → AreReached layout archives 0 0
-none_reached layout archives laid = record {
-  within = omega arith;
-  left = let all : layout.total - 0 ≡ layout.total = omega arith in omega (arith, ap (payload_length layout.code.k layout.size) all);
-  rest = λ body of position archive below.
-      let same = laid.alike position archive below in
-      let at = get_or archives position archive in
-      of.payloads position archive below ∙ ap (λ n. payload n at.segment body at.index) same.0 ∙ ap (λ n. payload layout.code.k n body at.index) same.2;
-}
+-- ---- what is made, one segment after the other
 
-module _ (layout : Layout) (archives : List ArchiveModel) (done offset count width : ℕ) (laid : AreLaidOut layout archives) (more : done < layout.total)
-    (reached : AreReached layout archives done offset) (count_is : count ≡ min layout.size (layout.total - done)) (width_is : width ≡ fragment_width layout.code.k count) where
+-- no segment is behind at first
+pub none_reached : (layout : Layout) → AreReached layout 0 0
+none_reached layout =
+    let all : layout.total - 0 ≡ layout.total = omega arith in
+    record { within = omega arith; left = omega (arith, ap (payload_length layout.code.k layout.size) all) }
+
+-- all pieces are left
+pub all_left : (layout : Layout) (archives : List ArchiveModel) (made_of : ℕ → List (List ℕ) → List ℕ) → AreLaidOut layout archives
+    → (pieces : List (List ℕ)) → AreOfPieces archives pieces → AreLeft layout archives made_of 0 0 [] pieces
+all_left layout archives made_of laid pieces of =
+    let some : 0 < length archives = omega (arith, laid.count, layout.code.some_data) in
+    let all : layout.total ≡ layout.total - 0 = omega arith in
+    record {
+      others = pieces;
+      are = subst (λ n. ArePieces layout.code.k layout.size n pieces) all
+          (as_laid_out layout archives laid 0 no_archive some (λ k size total. ArePieces k size total pieces) (of 0 no_archive some).0);
+      payloads = λ position archive below.
+          let at = get_or archives position archive in
+          as_laid_out layout archives laid position archive below (λ k size total. at.payload ≡ joined_fragments k size total pieces at.index) (of position archive below).1
+          ∙ ap (λ n. joined_fragments layout.code.k layout.size n pieces at.index) all;
+      whole = ap (λ n. made_of n pieces) (sym all);
+    }
+
+module _ (layout : Layout) (archives : List ArchiveModel) (done offset count width : ℕ) (more : done < layout.total)
+    (count_is : count ≡ min layout.size (layout.total - done)) (width_is : width ≡ fragment_width layout.code.k count) where
   abbrev k : ℕ
   k = layout.code.k
 
@@ -174,79 +166,81 @@ module _ (layout : Layout) (archives : List ArchiveModel) (done offset count wid
   abbrev total : ℕ
   total = layout.total
 
-  some : 0 < layout.code.k
-  some = omega (arith, layout.code.some_data)
+  module _ (whole_size : 0 < layout.size) (reached : AreReached layout done offset) where
+    some : 0 < layout.code.k
+    some = omega (arith, layout.code.some_data)
 
-  -- how far the payloads reach behind the next segment
-  left_behind : offset + width + payload_length k size (total - (done + count)) ≡ payload_length k size total
-  left_behind =
-      let cut = payload_length-cut k size (total - done) some laid.size in
-      let left : total - (done + count) ≡ (total - done) - min size (total - done) = omega (arith, count_is) in
-      let rest : payload_length k size (total - (done + count)) ≡ payload_length k size ((total - done) - min size (total - done)) = ap (payload_length k size) left in
-      let wide : width ≡ fragment_width k (min size (total - done)) = width_is ∙ ap (fragment_width k) count_is in
-      omega (arith, reached.left, cut, rest, wide)
+    -- how far the payloads reach behind the next segment
+    left_behind : offset + width + payload_length k size (total - (done + count)) ≡ payload_length k size total
+    left_behind =
+        let cut = payload_length-cut k size (total - done) some whole_size in
+        let left : total - (done + count) ≡ (total - done) - min size (total - done) = omega (arith, count_is) in
+        let rest : payload_length k size (total - (done + count)) ≡ payload_length k size ((total - done) - min size (total - done)) = ap (payload_length k size) left in
+        let wide : width ≡ fragment_width k (min size (total - done)) = width_is ∙ ap (fragment_width k) count_is in
+        omega (arith, reached.left, cut, rest, wide)
 
-  pub next_stop : offset + width ≤ laid_length layout
-  next_stop = omega (arith, left_behind)
+    pub next_stop : offset + width ≤ laid_length layout
+    next_stop = omega (arith, left_behind)
 
-  module _ (body : List ℕ) (of : AreOfBody archives body) where
-    abbrev segment : List ℕ
-    segment = take count (drop done body)
+    -- the next segment is behind, too
+    pub next_reached : AreReached layout (done + count) (offset + width)
+    next_reached = record { within = omega (arith, count_is); left = left_behind }
 
-    length_is : length body ≡ total
-    length_is = length_of_body layout archives body laid of
+  -- What is made of the next segment's pieces stands behind what was made.
+  module _ (made_of : ℕ → List (List ℕ) → List ℕ) (part : ℕ → List ℕ → List ℕ) (made next : List ℕ) (pieces : List (List ℕ))
+      (step : (n : ℕ) (first : List ℕ) (others : List (List ℕ)) → made_of n (first ∷ others) ≡ part (min size n) first ++ made_of (n - size) others)
+      (decodes : (first : List ℕ) → IsBytes first → length first ≡ k * fragment_width k count → HavePieces k offset (fragment_width k count) first archives → next ≡ part count first) where
+    next_of : (others : List (List ℕ)) → ArePieces k size (total - done) others
+        → All (λ archive. drop offset archive.payload ≡ joined_fragments k size (total - done) others archive.index) archives
+        → made ++ made_of (total - done) others ≡ made_of total pieces
+        → AreLeft layout archives made_of (done + count) (offset + width) (made ++ next) pieces
+    next_of [] are payloads whole = absurd (omega (arith, are, more))
+    next_of (first ∷ others) are payloads whole =
+        let n : ℕ = total - done in
+        let counted : min size n ≡ count = sym count_is in
+        let behind : n - size ≡ total - (done + count) = omega (arith, count_is) in
+        let here : ℕ → List ℕ = λ index. fragment k (fragment_width k (min size n)) first index in
+        let there : ℕ → List ℕ = λ index. joined_fragments k size (n - size) others index in
+        let wide : (index : ℕ) → length (here index) ≡ fragment_width k count = λ index. length-fragment k (fragment_width k (min size n)) first index ∙ ap (fragment_width k) counted in
+        let have : HavePieces k offset (fragment_width k count) first archives =
+        λ position archive below.
+        let index : ℕ = (get_or archives position archive).index in
+        ap (take (fragment_width k count)) (payloads position archive below) ∙ take_at (here index) (there index) (fragment_width k count) (wide index)
+        ∙ ap (λ c. fragment k (fragment_width k c) first index) counted in
+        let this : next ≡ part count first = decodes first are.1 (are.2 ∙ ap (λ c. k * fragment_width k c) counted) have in
+        record {
+          others = others;
+          are = subst (λ m. ArePieces k size m others) behind are.3;
+          payloads = λ position archive below.
+              let at = get_or archives position archive in
+              sym (drop-drop width offset at.payload) ∙ ap (drop width) (payloads position archive below)
+              ∙ drop_at (here at.index) (there at.index) width (wide at.index ∙ sym width_is) ∙ ap (λ m. joined_fragments k size m others at.index) behind;
+          whole = append_assoc made next (made_of (total - (done + count)) others) ∙ ap (λ bytes. made ++ (bytes ++ made_of (total - (done + count)) others)) (this ∙ ap (λ c. part c first) count_is)
+              ∙ ap (λ m. made ++ (part (min size n) first ++ made_of m others)) (sym behind) ∙ ap (λ bytes. made ++ bytes) (sym (step n first others)) ∙ whole;
+        }
 
-    counted : length segment ≡ count
-    counted = omega (arith, length-take count (drop done body), length-drop done body, count_is, length_is)
+    pub next_left : AreLeft layout archives made_of done offset made pieces → AreLeft layout archives made_of (done + count) (offset + width) (made ++ next) pieces
+    next_left left = next_of left.others left.are left.payloads left.whole
 
-    segment_bytes : IsBytes segment
-    segment_bytes = IsBytes-take count (drop done body) (IsBytes-drop done body of.bytes)
+-- where no byte is left, all was made
+all_made : (layout : Layout) (made_of : ℕ → List (List ℕ) → List ℕ) (n : ℕ) (made : List ℕ) (pieces others : List (List ℕ)) → n ≡ 0 → made_of n [] ≡ []
+    → ArePieces layout.code.k layout.size n others → made ++ made_of n others ≡ made_of layout.total pieces → made ≡ made_of layout.total pieces
+all_made layout made_of n made pieces [] over none are whole = sym (append-nil made) ∙ ap (λ bytes. made ++ bytes) (sym none) ∙ whole
+all_made layout made_of n made pieces (first ∷ others) over none are whole = absurd (omega (arith, over, are.0))
 
-    -- the payload of one index, cut behind the fragment of the next segment
-    cut_payload : (index : ℕ) → payload k size (drop done body) index ≡ segment_fragment k segment index ++ payload k size (drop (done + count) body) index
-    cut_payload index =
-        payload-cut k size (drop done body) segment (drop count (drop done body)) index laid.size (omega (arith, length-drop done body, more, length_is)) (sym (take-append-drop count (drop done body)))
-        (counted ∙ count_is ∙ ap (min size) (omega (arith, length-drop done body, length_is)))
-        ∙ ap (λ b. segment_fragment k segment index ++ payload k size b index) (drop-drop count done body)
+pub none_left : (layout : Layout) (archives : List ArchiveModel) (made_of : ℕ → List (List ℕ) → List ℕ) (done offset : ℕ) (made : List ℕ) (pieces : List (List ℕ))
+    → layout.total ≤ done → ((n : ℕ) → made_of n [] ≡ []) → AreLeft layout archives made_of done offset made pieces → made ≡ made_of layout.total pieces
+none_left layout archives made_of done offset made pieces over none left =
+    all_made layout made_of (layout.total - done) made pieces left.others (omega (arith, over)) (none (layout.total - done)) left.are left.whole
 
-    fragment_counted : (index : ℕ) → length (segment_fragment k segment index) ≡ width
-    fragment_counted index = length-segment_fragment k segment index ∙ ap (fragment_width k) counted ∙ sym width_is
+-- ---- a body is decoded
 
-    have_segment : HaveSegment k offset segment archives
-    have_segment position archive below =
-        let index = (get_or archives position archive).index in
-        ap (λ n. take n (drop offset (get_or archives position archive).payload)) (ap (fragment_width k) counted ∙ sym width_is)
-        ∙ ap (take width) (reached.rest body of position archive below ∙ cut_payload index) ∙ take_at (segment_fragment k segment index) _ width (fragment_counted index)
-
-    rest_behind : All (λ archive. drop (offset + width) archive.payload ≡ payload k size (drop (done + count) body) archive.index) archives
-    rest_behind position archive below =
-        let index = (get_or archives position archive).index in
-        sym (drop-drop width offset (get_or archives position archive).payload)
-        ∙ ap (drop width) (reached.rest body of position archive below ∙ cut_payload index) ∙ drop_at (segment_fragment k segment index) _ width (fragment_counted index)
-
-  -- the next segment is behind, too
-  pub next_reached : AreReached layout archives (done + count) (offset + width)
-  next_reached = record { within = omega (arith, count_is); left = left_behind; rest = rest_behind }
-
-  -- the next segment is decoded
-  pub front_more : (front decoded new : List ℕ) → length front ≡ done → new ≡ front ++ decoded → length decoded ≡ count → ((body : List ℕ) → AreOfBody archives body → front ≡ take (length front) body)
-      → ((segment : List ℕ) → IsBytes segment → length segment ≡ count → HaveSegment k offset segment archives → decoded ≡ segment)
-      → (body : List ℕ) → AreOfBody archives body → new ≡ take (length new) body
-  front_more front decoded new front_is new_is decoded_is so_far decodes body of =
-      let long : length new ≡ done + count = ap length new_is ∙ length-append front decoded ∙ omega (arith, front_is, decoded_is) in
-      new_is ∙ ap (λ bytes. bytes ++ decoded) (so_far body of ∙ ap (λ n. take n body) front_is)
-      ∙ ap (λ bytes. take done body ++ bytes) (decodes (segment body of) (segment_bytes body of) (counted body of) (have_segment body of))
-      ∙ sym (take-add done count body) ∙ ap (λ n. take n body) (sym long)
-
-  -- the next fragment is rebuilt
-  pub fragments_more : (fragments fragment : List ℕ) (index : ℕ)
-      → ((segment : List ℕ) → IsBytes segment → length segment ≡ count → HaveSegment k offset segment archives → fragment ≡ segment_fragment k segment index)
-      → ((body : List ℕ) → AreOfBody archives body → fragments ++ payload k size (drop done body) index ≡ payload k size body index)
-      → (body : List ℕ) → AreOfBody archives body → (fragments ++ fragment) ++ payload k size (drop (done + count) body) index ≡ payload k size body index
-  fragments_more fragments fragment index rebuilds so_far body of =
-      append_assoc fragments fragment (payload k size (drop (done + count) body) index)
-      ∙ ap (λ bytes. fragments ++ (bytes ++ payload k size (drop (done + count) body) index)) (rebuilds (segment body of) (segment_bytes body of) (counted body of) (have_segment body of))
-      ∙ ap (λ bytes. fragments ++ bytes) (sym (cut_payload body of index)) ∙ so_far body of
+-- the body of what was decoded
+pub body_decoded : (layout : Layout) (archives : List ArchiveModel) (done offset : ℕ) (body : List ℕ) → AreLaidOut layout archives → layout.total ≤ done
+    → ((pieces : List (List ℕ)) → AreOfPieces archives pieces → AreLeft layout archives (joined_segments layout.size) done offset body pieces) → IsDecoded archives body
+body_decoded layout archives done offset body laid over left = λ pieces of position other below.
+    laid_out_as layout archives laid position other below (λ k size total. body ≡ joined_segments size total pieces)
+    (none_left layout archives (joined_segments layout.size) done offset body pieces over (λ n. refl) (left pieces of))
 
 -- ---- a whole payload is rebuilt
 
@@ -257,13 +251,17 @@ index_below layout archives index laid below =
     let same = laid.alike 0 no_archive some in
     omega (arith, below 0 no_archive some, same.0, same.1)
 
+-- the fragments of an index of these pieces
+abbrev pub fragments_at : Layout → ℕ → ℕ → List (List ℕ) → List ℕ
+fragments_at layout index total pieces = joined_fragments layout.code.k layout.size total pieces index
+
 -- the fragments of an index so far were added
 pub record ArePartRebuilt (layout : Layout) (archives : List ArchiveModel) (index done offset : ℕ) (old new : List ℕ) : Type 0 where
-  pub reached : AreReached layout archives done offset
+  pub reached : AreReached layout done offset
   pub fragments : List ℕ
   pub appended : new ≡ old ++ fragments
   pub count : length fragments ≡ offset
-  pub body : (body : List ℕ) → AreOfBody archives body → fragments ++ payload layout.code.k layout.size (drop done body) index ≡ payload layout.code.k layout.size body index
+  pub left : (pieces : List (List ℕ)) → AreOfPieces archives pieces → AreLeft layout archives (fragments_at layout index) done offset fragments pieces
 
 -- all of them
 pub rebuilt : (layout : Layout) (archives : List ArchiveModel) (index done offset : ℕ) (old new : List ℕ) → AreLaidOut layout archives → ArePartRebuilt layout archives index done offset old new
@@ -276,16 +274,8 @@ rebuilt layout archives index done offset old new laid part over =
     record {
       added = part.fragments;
       appended = part.appended;
-      reach = λ position other below.
-          let at = get_or archives position other in
-          let same = laid.alike position other below in
-          reach ∙ sym (ap (λ n. payload_length n at.segment at.body_length) same.0 ∙ ap (λ n. payload_length layout.code.k n at.body_length) same.2 ∙ ap (payload_length layout.code.k layout.size) same.3);
-      body = λ body of position other below.
-          let at = get_or archives position other in
-          let same = laid.alike position other below in
-          let behind : drop done body ≡ [] = drop_of_length-le body (omega (arith, length_of_body layout archives body laid of, over)) in
-          let all : part.fragments ≡ payload layout.code.k layout.size body index =
-          sym (append-nil part.fragments) ∙ ap (λ bytes. part.fragments ++ bytes) (sym (ap (λ b. payload layout.code.k layout.size b index) behind ∙ payload-nil layout.code.k layout.size index))
-          ∙ part.body body of in
-          all ∙ sym (ap (λ n. payload n at.segment body index) same.0 ∙ ap (λ n. payload layout.code.k n body index) same.2);
+      reach = λ position other below. laid_out_as layout archives laid position other below (λ k size total. length part.fragments ≡ payload_length k size total) reach;
+      rebuilt = λ pieces of position other below.
+          laid_out_as layout archives laid position other below (λ k size total. part.fragments ≡ joined_fragments k size total pieces index)
+          (none_left layout archives (fragments_at layout index) done offset part.fragments pieces over (λ n. refl) (part.left pieces of));
     }

@@ -10,4 +10,5 @@ mod Objects
 mod Openings
 mod Paths
 mod Payloads
+mod Pieces
 mod Readings

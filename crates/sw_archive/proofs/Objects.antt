@@ -8,13 +8,16 @@ use Rattle.sw_types.specs.Head.{HeadModel}
 use Rattle.sw_types.specs.Name.{NameModel}
 use Rattle.sw_types.specs.Object.{ObjectModel}
 use Rattle.sw_types.specs.Policy.{PolicyModel}
+use Rattle.sw_types.proofs.Policies.{bounds}
 use Rattle.sw_archive.specs.Archive.{ArchiveModel, IsSound, archive_bytes, checked, payload_length}
 use Rattle.sw_archive.specs.Assemble.{AreAlike, AreEnough, AreTogether, GivesObject, IsFurther}
 use Rattle.sw_archive.specs.Decoding.{IsRebuilt}
-use Rattle.sw_archive.specs.Put.{AreOfBody, AreOfPut, IsPut, payload, put_archive, put_fields}
+use Rattle.sw_archive.specs.Pieces.{AreOfPieces, ArePieces, IsDecoded, joined_fragments, joined_segments}
+use Rattle.sw_archive.specs.Put.{AreOfPut, IsPut, put_archive, put_fields}
 use Rattle.sw_archive.specs.declared.assemble.AssembleFault.{AssembleFault}
 use Rattle.sw_archive.specs.declared.assemble.AssembleFault.TheVariants.{BodyMd5, NoMemory}
 use Rattle.sw_archive.proofs.Archives.{same_archive}
+use Rattle.sw_archive.proofs.Pieces.{OfBody, of_body}
 
 -- ---- the first archive
 
@@ -62,18 +65,30 @@ put_told : (policy : PolicyModel) (stamp : ℕ) (name : NameModel) (object : Obj
     → let first = get_or archives 0 no_archive in first ≡ put_fields policy stamp name object first.index
 put_told policy stamp name object archives of enough = of 0 no_archive (some_archive archives enough)
 
--- the payloads of a put's archives are those of its body
-pub body_of_put : (policy : PolicyModel) (stamp : ℕ) (name : NameModel) (object : ObjectModel) (archives : List ArchiveModel) → IsPut policy stamp name object → AreOfPut policy stamp name object archives
-    → AreOfBody archives object.body
-body_of_put policy stamp name object archives put of = record {
-  bytes = put.object_rules.bytes;
-  lengths = λ position other below. ap (λ (a : ArchiveModel). a.body_length) (of position other below);
-  payloads = λ position other below.
-      let at = get_or archives position other in
-      let is = of position other below in
-      ap (λ (a : ArchiveModel). a.payload) is
-      ∙ sym (ap (λ (a : ArchiveModel). payload a.k at.segment object.body at.index) is ∙ ap (λ (a : ArchiveModel). payload policy.k a.segment object.body at.index) is);
-}
+-- the pieces of a put's body
+pieces_of : (policy : PolicyModel) (stamp : ℕ) (name : NameModel) (object : ObjectModel) → IsPut policy stamp name object → OfBody policy.k policy.segment object.body
+pieces_of policy stamp name object put =
+    let rules = bounds policy put.policy_rules in
+    of_body policy.k policy.segment object.body (omega (arith, rules.some_data)) (omega (arith, rules.some_data, rules.least_segment)) put.object_rules.bytes
+
+-- the payloads of a put's archives have the fragments of these
+of_pieces : (policy : PolicyModel) (stamp : ℕ) (name : NameModel) (object : ObjectModel) (archives : List ArchiveModel) → (put : IsPut policy stamp name object) → AreOfPut policy stamp name object archives
+    → AreOfPieces archives (pieces_of policy stamp name object put).pieces
+of_pieces policy stamp name object archives put of = λ position other below.
+    let at = get_or archives position other in
+    let pieces = pieces_of policy stamp name object put in
+    subst (λ (a : ArchiveModel). ArePieces a.k a.segment a.body_length pieces.pieces × (a.payload ≡ joined_fragments a.k a.segment a.body_length pieces.pieces a.index)) (sym (of position other below))
+    (pieces.are, pieces.fragments at.index)
+
+-- what a put's archives hold is its body
+pub decoded_of_put : (policy : PolicyModel) (stamp : ℕ) (name : NameModel) (object : ObjectModel) (archives : List ArchiveModel) (body : List ℕ) → AreEnough archives
+    → (put : IsPut policy stamp name object) → AreOfPut policy stamp name object archives → IsDecoded archives body → body ≡ object.body
+decoded_of_put policy stamp name object archives body enough put of decoded =
+    let some = some_archive archives enough in
+    let pieces = pieces_of policy stamp name object put in
+    subst (λ (a : ArchiveModel). body ≡ joined_segments a.segment a.body_length pieces.pieces) (put_told policy stamp name object archives of enough)
+    (decoded pieces.pieces (of_pieces policy stamp name object archives put of) 0 no_archive some)
+    ∙ pieces.segments
 
 -- of a put's archives the answer is the object
 pub object_of_put : (archives : List ArchiveModel) (result : Result ObjectModel AssembleFault) → GivesObject archives result → AreEnough archives
@@ -83,12 +98,12 @@ object_of_put archives (Ok read) gives enough policy stamp name object put of = 
     let some = some_archive archives enough in
     let first = put_told policy stamp name object archives of enough in
     ap (λ (o : ObjectModel). Ok o)
-    (same_object read object (gives.head 0 no_archive some ∙ ap (λ (a : ArchiveModel). a.head) first) (gives.body object.body (body_of_put policy stamp name object archives put of))
+    (same_object read object (gives.head 0 no_archive some ∙ ap (λ (a : ArchiveModel). a.head) first) (decoded_of_put policy stamp name object archives read.body enough put of gives.decoded)
     (gives.body_md5 0 no_archive some ∙ ap (λ (a : ArchiveModel). a.body_md5) first))
 object_of_put archives (Err (BodyMd5 told computed)) gives enough policy stamp name object put of = λ other.
     let first = put_told policy stamp name object archives of enough in
     absurd (gives.differs (gives.tells 0 no_archive (some_archive archives enough) ∙ ap (λ (a : ArchiveModel). a.body_md5) first ∙ put.object_rules.body_md5
-    ∙ sym (gives.body object.body (body_of_put policy stamp name object archives put of))))
+    ∙ sym (gives.computes ∙ ap md5 (decoded_of_put policy stamp name object archives gives.body enough put of gives.decoded))))
 object_of_put archives (Err NoMemory) gives enough policy stamp name object put of = λ other. absurd (other refl)
 
 -- ---- a further archive
@@ -128,8 +143,8 @@ further_archive archives first index old new bytes enough together is sound belo
           same_archive at (record archive { index = at.index; payload = at.payload }) (sym (ap (λ (a : ArchiveModel). a.k) same)) (sym (ap (λ (a : ArchiveModel). a.m) same)) refl
           (sym (ap (λ (a : ArchiveModel). a.segment) same)) (sym (ap (λ (a : ArchiveModel). a.stamp) same)) (sym (ap (λ (a : ArchiveModel). a.body_length) same))
           (sym (ap (λ (a : ArchiveModel). a.body_md5) same)) (sym (ap (λ (a : ArchiveModel). a.name) same)) (sym (ap (λ (a : ArchiveModel). a.head) same)) refl;
-      body = λ body of.
-          subst (λ (a : ArchiveModel). rebuilt.added ≡ payload a.k a.segment body index) there (rebuilt.body body of 0 first some);
+      rebuilt = λ pieces of.
+          subst (λ (a : ArchiveModel). rebuilt.added ≡ joined_fragments a.k a.segment a.body_length pieces index) there (rebuilt.rebuilt pieces of 0 first some);
     }
 
 -- of a put's archives it is that of the put
@@ -142,11 +157,14 @@ further_of_put archives index bytes further enough policy stamp name object put 
     let alike = further.alike 0 no_archive (some_archive archives enough) in
     let k : archive.k ≡ policy.k = sym (ap (λ (a : ArchiveModel). a.k) alike) ∙ ap (λ (a : ArchiveModel). a.k) first in
     let segment : archive.segment ≡ policy.segment = sym (ap (λ (a : ArchiveModel). a.segment) alike) ∙ ap (λ (a : ArchiveModel). a.segment) first in
-    let fragments = further.body object.body (body_of_put policy stamp name object archives put of)
-    ∙ ap (λ n. payload n archive.segment object.body index) k ∙ ap (λ n. payload policy.k n object.body index) segment in
+    let length_is : archive.body_length ≡ length object.body = sym (ap (λ (a : ArchiveModel). a.body_length) alike) ∙ ap (λ (a : ArchiveModel). a.body_length) first in
+    let pieces = pieces_of policy stamp name object put in
+    let fragments = further.rebuilt pieces.pieces (of_pieces policy stamp name object archives put of)
+    ∙ ap (λ n. joined_fragments n archive.segment archive.body_length pieces.pieces index) k ∙ ap (λ n. joined_fragments policy.k n archive.body_length pieces.pieces index) segment
+    ∙ ap (λ n. joined_fragments policy.k policy.segment n pieces.pieces index) length_is ∙ sym (pieces.fragments index) in
     further.spelled.spelled
     ∙ ap archive_bytes
     (same_archive archive (put_fields policy stamp name object index) k (sym (ap (λ (a : ArchiveModel). a.m) alike) ∙ ap (λ (a : ArchiveModel). a.m) first) further.indexed segment
-    (sym (ap (λ (a : ArchiveModel). a.stamp) alike) ∙ ap (λ (a : ArchiveModel). a.stamp) first) (sym (ap (λ (a : ArchiveModel). a.body_length) alike) ∙ ap (λ (a : ArchiveModel). a.body_length) first)
+    (sym (ap (λ (a : ArchiveModel). a.stamp) alike) ∙ ap (λ (a : ArchiveModel). a.stamp) first) length_is
     (sym (ap (λ (a : ArchiveModel). a.body_md5) alike) ∙ ap (λ (a : ArchiveModel). a.body_md5) first) (sym (ap (λ (a : ArchiveModel). a.name) alike) ∙ ap (λ (a : ArchiveModel). a.name) first)
     (sym (ap (λ (a : ArchiveModel). a.head) alike) ∙ ap (λ (a : ArchiveModel). a.head) first) fragments)

@@ -106,7 +106,7 @@ segments-step size body whole some =
 -- ---- a payload
 
 -- the fragment of the first segment, and the payload of the rest
-payload-step : (k size : ℕ) (body : List ℕ) (index : ℕ) → 0 < size → 0 < length body
+pub payload-step : (k size : ℕ) (body : List ℕ) (index : ℕ) → 0 < size → 0 < length body
     → payload k size body index ≡ segment_fragment k (take size body) index ++ payload k size (drop size body) index
 payload-step k size body index whole some = ap (flat_map (λ segment. segment_fragment k segment index)) (segments-step size body whole some)
 

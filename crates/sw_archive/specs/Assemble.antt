@@ -4,7 +4,7 @@ use Rattle.std.specs.List.{All, AllPairs}
 use Rattle.md5.specs.Md5.{md5}
 use Rattle.sw_types.specs.Object.{ObjectModel}
 use Rattle.sw_archive.specs.Archive.{ArchiveModel, IsArchive}
-use Rattle.sw_archive.specs.Put.{AreOfBody, payload}
+use Rattle.sw_archive.specs.Pieces.{AreOfPieces, IsDecoded, joined_fragments}
 use Rattle.sw_archive.specs.declared.assemble.AssembleFault.{AssembleFault}
 use Rattle.sw_archive.specs.declared.assemble.AssembleFault.TheVariants.{BodyMd5, NoMemory}
 
@@ -39,18 +39,21 @@ abbrev pub AreEnough : List ArchiveModel → Type 0
 AreEnough [] = ⊥
 AreEnough (first ∷ others) = length (first ∷ others) ≡ first.k
 
--- an object has what these archives tell of it; where their payloads are those of a body at all, it has that body
+-- an object has what these archives tell of it, and the body that they hold
 pub record IsTold (archives : List ArchiveModel) (object : ObjectModel) : Type 0 where
   pub head : All (λ archive. object.head ≡ archive.head) archives
   pub length : All (λ archive. length object.body ≡ archive.body_length) archives
   pub body_md5 : All (λ archive. object.body_md5 ≡ archive.body_md5) archives
-  pub body : (body : List ℕ) → AreOfBody archives body → object.body ≡ body
+  pub decoded : IsDecoded archives object.body
 
--- these archives tell another MD5 than that of what was decoded from them
+-- these archives tell another MD5 than that of the body that they hold
 pub record IsOther (archives : List ArchiveModel) (told computed : List ℕ) : Type 0 where
   pub tells : All (λ archive. told ≡ archive.body_md5) archives
   pub differs : told ≢ computed
-  pub body : (body : List ℕ) → AreOfBody archives body → computed ≡ md5 body
+  pub body : List ℕ
+  pub length : All (λ archive. length body ≡ archive.body_length) archives
+  pub decoded : IsDecoded archives body
+  pub computes : computed ≡ md5 body
 
 -- what reading k archives gives, whatever they hold
 abbrev pub GivesObject : List ArchiveModel → Result ObjectModel AssembleFault → Type 0
@@ -58,11 +61,11 @@ GivesObject archives (Ok object) = IsTold archives object
 GivesObject archives (Err (BodyMd5 told computed)) = IsOther archives told computed
 GivesObject archives (Err NoMemory) = ⊤
 
--- the bytes are an archive of this index beside these, whatever they hold; where their payloads are those of a body at all,
--- its payload is that of the body
+-- the bytes are an archive of this index beside these, and its payload has the fragments of the pieces that theirs are of
 pub record IsFurther (archives : List ArchiveModel) (index : ℕ) (bytes : List ℕ) : Type 0 where
   pub archive : ArchiveModel
   pub spelled : IsArchive bytes archive
   pub indexed : archive.index ≡ index
   pub alike : All (λ other. AreAlike other archive) archives
-  pub body : (body : List ℕ) → AreOfBody archives body → archive.payload ≡ payload archive.k archive.segment body index
+  pub rebuilt : (pieces : List (List ℕ)) → AreOfPieces archives pieces →
+      archive.payload ≡ joined_fragments archive.k archive.segment archive.body_length pieces index

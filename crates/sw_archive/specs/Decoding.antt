@@ -3,9 +3,9 @@ use Rattle.std.specs.Prelude.{◌≡◌, ◌≢◌, ◌≤◌, ◌<◌, ℕ, ◌
 use Rattle.std.specs.List.{All, AllPairs}
 use Rattle.sw_types.specs.Object.{greatest_body}
 use Rattle.sw_cauchy.specs.Share.{Share}
-use Rattle.sw_cauchy.specs.Stripe.{fragment_width, segment_fragment}
+use Rattle.sw_cauchy.specs.Stripe.{fragment}
 use Rattle.sw_archive.specs.Archive.{ArchiveModel, payload_length}
-use Rattle.sw_archive.specs.Put.{AreOfBody, payload}
+use Rattle.sw_archive.specs.Pieces.{AreOfPieces, ArePieces, joined_fragments}
 use Rattle.sw_archive.specs.declared.decoding.Layout.{Layout}
 
 -- the bytes of a payload of this layout
@@ -24,21 +24,25 @@ pub record AreLaidOut (layout : Layout) (archives : List ArchiveModel) : Type 0 
 abbrev pub share_at : ℕ → ℕ → ArchiveModel → Share
 share_at offset width archive = record { index = archive.index; bytes = take width (drop offset archive.payload) }
 
--- the payloads have the fragments of this segment there
-abbrev pub HaveSegment : ℕ → ℕ → List ℕ → List ArchiveModel → Type 0
-HaveSegment k offset segment archives =
-    All (λ archive. take (fragment_width k (length segment)) (drop offset archive.payload) ≡ segment_fragment k segment archive.index) archives
+-- the payloads have the fragments of these pieces there
+abbrev pub HavePieces : ℕ → ℕ → ℕ → List ℕ → List ArchiveModel → Type 0
+HavePieces k offset width pieces archives = All (λ archive. take width (drop offset archive.payload) ≡ fragment k width pieces archive.index) archives
 
 -- behind so many bytes of a body, so many bytes of each payload are behind
-pub record AreReached (layout : Layout) (archives : List ArchiveModel) (done offset : ℕ) : Type 0 where
+pub record AreReached (layout : Layout) (done offset : ℕ) : Type 0 where
   pub within : done ≤ layout.total
   pub left : offset + payload_length layout.code.k layout.size (layout.total - done) ≡ laid_length layout
-  pub rest : (body : List ℕ) → AreOfBody archives body →
-      All (λ archive. drop offset archive.payload ≡ payload layout.code.k layout.size (drop done body) archive.index) archives
 
--- a payload of this index was added; where those of the archives are of a body, it is that of the body
+-- pieces of which these bytes were made, and others, which the payloads have behind the offset
+pub record AreLeft (layout : Layout) (archives : List ArchiveModel) (made_of : ℕ → List (List ℕ) → List ℕ) (done offset : ℕ) (made : List ℕ) (pieces : List (List ℕ)) : Type 0 where
+  pub others : List (List ℕ)
+  pub are : ArePieces layout.code.k layout.size (layout.total - done) others
+  pub payloads : All (λ archive. drop offset archive.payload ≡ joined_fragments layout.code.k layout.size (layout.total - done) others archive.index) archives
+  pub whole : made ++ made_of (layout.total - done) others ≡ made_of layout.total pieces
+
+-- a payload of this index was added
 pub record IsRebuilt (archives : List ArchiveModel) (index : ℕ) (old new : List ℕ) : Type 0 where
   pub added : List ℕ
   pub appended : new ≡ old ++ added
   pub reach : All (λ archive. length added ≡ payload_length archive.k archive.segment archive.body_length) archives
-  pub body : (body : List ℕ) → AreOfBody archives body → All (λ archive. added ≡ payload archive.k archive.segment body index) archives
+  pub rebuilt : (pieces : List (List ℕ)) → AreOfPieces archives pieces → All (λ archive. added ≡ joined_fragments archive.k archive.segment archive.body_length pieces index) archives

@@ -6,5 +6,6 @@ pub mod Fault
 pub mod Header
 pub mod Label
 pub mod Parts
+pub mod Pieces
 pub mod Put
 pub mod Reading

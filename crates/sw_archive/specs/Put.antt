@@ -3,7 +3,6 @@ use Rattle.std.specs.Prelude.{◌≡◌, ℕ, ◌≤◌, List, length, map, None
 use Rattle.std.specs.Fork.{slice_chunk}
 use Rattle.std.specs.List.{All, flat_map, range_with_len}
 use Rattle.std.specs.Slice.Iter.{chunk_count}
-use Rattle.sw_words.specs.Bytes.{IsBytes}
 use Rattle.sw_types.specs.Name.{NameModel, name_fault}
 use Rattle.sw_types.specs.Object.{IsObject, ObjectModel}
 use Rattle.sw_types.specs.Policy.{PolicyModel, policy_fault}
@@ -48,9 +47,3 @@ pub record IsPut (policy : PolicyModel) (stamp : ℕ) (name : NameModel) (object
 -- these are archives of that put
 abbrev pub AreOfPut : PolicyModel → ℕ → NameModel → ObjectModel → List ArchiveModel → Type 0
 AreOfPut policy stamp name object archives = All (λ archive. archive ≡ put_fields policy stamp name object archive.index) archives
-
--- the payloads of these archives are those of this body
-pub record AreOfBody (archives : List ArchiveModel) (body : List ℕ) : Type 0 where
-  pub bytes : IsBytes body
-  pub lengths : All (λ archive. archive.body_length ≡ length body) archives
-  pub payloads : All (λ archive. archive.payload ≡ payload archive.k archive.segment body archive.index) archives

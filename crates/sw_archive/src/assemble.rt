@@ -8,7 +8,8 @@ ghost use Rattle.sw_types.specs.Object.{ObjectModel};
 ghost use Rattle.sw_types.specs.Policy.{PolicyModel};
 ghost use Rattle.sw_archive.specs.Alike.{is_beside, is_next};
 ghost use Rattle.sw_archive.specs.Assemble.{AreEnough, AreTogether, GivesObject, IsFurther, IsNext, k_of};
-ghost use Rattle.sw_archive.specs.Put.{AreOfBody, AreOfPut, IsPut, put_archive};
+ghost use Rattle.sw_archive.specs.Pieces.{IsDecoded};
+ghost use Rattle.sw_archive.specs.Put.{AreOfPut, IsPut, put_archive};
 ghost use Rattle.sw_archive.specs.declared.assemble.AssembleFault.TheVariants.{NoMemory as WantOfMemory};
 
 use crate::archive::Archive;
@@ -145,7 +146,7 @@ fn decode_object(alloc: Global, archives: &[Archive]) -> Result<Object, NoMemory
     requires together { AreTogether archives.now }
     ensures head { IfOk result (λ object. All (λ archive. object.head ≡ archive.head) archives.now) }
     ensures length { IfOk result (λ object. All (λ archive. length object.body ≡ archive.body_length) archives.now) }
-    ensures body { (body : List ℕ) → AreOfBody archives.now body → IfOk result (λ object. object.body ≡ body) }
+    ensures decoded { IfOk result (λ object. IsDecoded archives.now object.body) }
 {
     let head = archives[0].head().clone()?;
     let body = decode_body(alloc, archives)?;

@@ -1,13 +1,13 @@
 //! Bodies and payloads are decoded from archives, segment by segment.
 
-ghost use Rattle.std.specs.Prelude.{◌≡◌, ◌+◌, ◌<◌, ◌≤◌, List, ℕ, IfOk, OnOk, length, map};
+ghost use Rattle.std.specs.Prelude.{◌≡◌, ◌+◌, ◌*◌, ◌<◌, ◌≤◌, List, ℕ, IfOk, OnOk, length, map, take};
 ghost use Rattle.std.specs.List.{All};
 ghost use Rattle.sw_words.specs.Bytes.{IsBytes};
 ghost use Rattle.sw_types.specs.Object.{greatest_body};
-ghost use Rattle.sw_cauchy.specs.Stripe.{fragment_width, segment_fragment};
+ghost use Rattle.sw_cauchy.specs.Stripe.{fragment, fragment_width};
 ghost use Rattle.sw_archive.specs.Assemble.{AreEnough, AreTogether};
-ghost use Rattle.sw_archive.specs.Decoding.{AreLaidOut, HaveSegment, IsRebuilt, laid_length, share_at};
-ghost use Rattle.sw_archive.specs.Put.{AreOfBody};
+ghost use Rattle.sw_archive.specs.Decoding.{AreLaidOut, HavePieces, IsRebuilt, laid_length, share_at};
+ghost use Rattle.sw_archive.specs.Pieces.{IsDecoded};
 
 use crate::archive::Archive;
 use std::alloc::Global;
@@ -28,7 +28,7 @@ pub(crate) fn decode_body(alloc: Global, archives: &[Archive]) -> Result<Bytes, 
     requires together { AreTogether archives.now }
     ensures length { IfOk result (λ body. All (λ archive. length body ≡ archive.body_length) archives.now) }
     ensures bound { IfOk result (λ body. length body ≤ greatest_body) }
-    ensures decoded { (body : List ℕ) → AreOfBody archives.now body → IfOk result (λ decoded. decoded ≡ body) }
+    ensures decoded { IfOk result (IsDecoded archives.now) }
 {
     let layout = layout_of(archives);
     let mut body = Vec::with_capacity(alloc, layout.total)?;
@@ -92,8 +92,9 @@ fn decode_segment(
     requires laid_out { AreLaidOut layout archives.now }
     requires reach { offset + fragment_width layout.code.k count ≤ laid_length layout }
     ensures length { IfOk result (λ segment. length segment ≡ count) }
-    ensures decoded { (segment : List ℕ) → IsBytes segment → length segment ≡ count → HaveSegment layout.code.k offset segment archives.now →
-        IfOk result (λ decoded. decoded ≡ segment) }
+    ensures decoded { let width = fragment_width layout.code.k count in
+        (pieces : List ℕ) → IsBytes pieces → length pieces ≡ layout.code.k * width → HavePieces layout.code.k offset width pieces archives.now →
+        IfOk result (λ segment. segment ≡ take count pieces) }
 {
     let width = layout.code.fragment_width(count);
     let gather = gather_fragments(alloc, archives, layout, offset, width)?;
@@ -113,8 +114,9 @@ fn rebuild_fragment(
     requires reach { offset + fragment_width layout.code.k count ≤ laid_length layout }
     requires index { index < layout.code.k + layout.code.m }
     ensures length { IfOk result (λ fragment. length fragment ≡ fragment_width layout.code.k count) }
-    ensures decoded { (segment : List ℕ) → IsBytes segment → length segment ≡ count → HaveSegment layout.code.k offset segment archives.now →
-        IfOk result (λ fragment. fragment ≡ segment_fragment layout.code.k segment index) }
+    ensures decoded { let width = fragment_width layout.code.k count in
+        (pieces : List ℕ) → IsBytes pieces → length pieces ≡ layout.code.k * width → HavePieces layout.code.k offset width pieces archives.now →
+        IfOk result (λ bytes. bytes ≡ fragment layout.code.k width pieces index) }
 {
     let width = layout.code.fragment_width(count);
     let gather = gather_fragments(alloc, archives, layout, offset, width)?;

@@ -1,6 +1,6 @@
 //! Archives made, read and refused; objects and further archives decoded from each pair of three.
 
-ghost use Rattle.std.specs.Prelude.{◌≡◌, ◌<◌, ◌∷◌, [], IfOk, length};
+ghost use Rattle.std.specs.Prelude.{◌≡◌, ◌<◌, ◌≤◌, ◌∷◌, [], IfOk};
 
 use crate::ArchiveFault::{BadField, BadLength, BadMagic, BadVersion, Damaged, Short};
 use crate::{
@@ -43,33 +43,44 @@ fn made(alloc: Global, segment: u32, units: u64, body: &[u8], index: u32) -> Res
     Ok(make_archive(alloc, &policy, stamp, &name, &object, index)?)
 }
 
+// What the bytes spell, or why they are no archive. Nothing is promised of it, which keeps the proofs of the tests short.
+fn spelled(alloc: Global, bytes: &[u8]) -> Result<Archive, ArchiveFault> {
+    read_archive(alloc, bytes)
+}
+
 #[test]
-fn makes_and_reads_the_worked_archive(rt: HostRuntime) -> Result<(), Fail> {
+fn makes_the_worked_archive(rt: HostRuntime) -> Result<(), Fail> {
     let alloc = rt.alloc();
     let bytes = sealed(alloc, WORKED)?;
     let made = made(alloc, 1_048_576, 100_000_000_000_000, b"abc", 0)?;
     assert_eq!(rt; made.as_slice(), bytes.as_slice());
-    let archive = read_archive(alloc, &bytes)?.clone()?;
-    assert_eq!(rt; (archive.k(), archive.m(), archive.index()), (2, 1, 0));
-    assert_eq!(rt; (archive.segment(), archive.body_length()), (1_048_576, 3));
-    assert_eq!(rt; archive.stamp().units(), 100_000_000_000_000);
-    assert_eq!(rt; archive.body_md5(), ABC_MD5);
-    assert_eq!(rt;
-        archive.name().path(alloc)?.as_slice(),
-        b"/a/c/o".as_slice()
-    );
+    Ok(())
+}
+
+#[test]
+fn reads_the_worked_archive(rt: HostRuntime) -> Result<(), Fail> {
+    let alloc = rt.alloc();
+    let archive = spelled(alloc, &sealed(alloc, WORKED)?)?.clone()?;
+    expect_numbers(&rt, &archive);
+    let path = archive.name().path(alloc)?;
+    assert_eq!(rt; path.as_slice(), b"/a/c/o".as_slice());
     assert_eq!(rt; archive.head().content_type(), TYPE.as_slice());
     assert!(rt; archive.head().pairs().is_empty());
     assert_eq!(rt; archive.payload(), b"ab".as_slice());
     Ok(())
 }
 
+// The archive has the numbers of the worked one.
+fn expect_numbers(rt: &impl Abort, archive: &Archive) {
+    assert_eq!(rt; (archive.k(), archive.m(), archive.index()), (2, 1, 0));
+    assert_eq!(rt; (archive.segment(), archive.body_length()), (1_048_576, 3));
+    assert_eq!(rt; archive.stamp().units(), 100_000_000_000_000);
+    assert_eq!(rt; archive.body_md5(), ABC_MD5);
+}
+
 #[test]
 fn keeps_pairs_in_order(rt: HostRuntime) -> Result<(), Fail> {
     let alloc = rt.alloc();
-    let policy = Policy::make(1, 1, 1, 1, 9)?;
-    let stamp = Stamp::make(0).ok_or("stamp")?;
-    let name = Name::make(alloc, b"a", b"c", b"o")?;
     let pairs = [
         (
             Bytes::from_slice(alloc, b"b")?,
@@ -78,18 +89,26 @@ fn keeps_pairs_in_order(rt: HostRuntime) -> Result<(), Fail> {
         (Bytes::from_slice(alloc, b"a")?, Bytes::new(alloc)),
     ];
     let head = Head::make(alloc, b"t", &pairs)?;
+    let bytes = made_of_nothing(alloc, head)?;
+    assert_eq!(rt; bytes.len(), 52 + 6 + 17 + 16);
+    assert_eq!(rt;
+        bytes.as_slice().get(58..75),
+        Some(b"\x00\x01t\x02\x01b\x00\x05first\x01a\x00\x00".as_slice())
+    );
+    let archive = spelled(alloc, bytes.as_slice())?;
+    assert_eq!(rt; archive.head().pairs(), pairs.as_slice());
+    Ok(())
+}
+
+// An archive of an empty body under this head.
+fn made_of_nothing(alloc: Global, head: Head) -> Result<Bytes, Fail> {
+    let policy = Policy::make(1, 1, 1, 1, 9)?;
+    let stamp = Stamp::make(0).ok_or("stamp")?;
+    let name = Name::make(alloc, b"a", b"c", b"o")?;
     let object = Object::make(head, Bytes::new(alloc))
         .ok()
         .ok_or("too long")?;
-    let bytes = make_archive(alloc, &policy, stamp, &name, &object, 1)?;
-    assert!(rt; bytes.len() == 52 + 6 + 17 + 16);
-    assert_eq!(rt;
-        &bytes.as_slice()[58..75],
-        b"\x00\x01t\x02\x01b\x00\x05first\x01a\x00\x00".as_slice()
-    );
-    let archive = read_archive(alloc, bytes.as_slice())?;
-    assert_eq!(rt; archive.head().pairs(), pairs.as_slice());
-    Ok(())
+    Ok(make_archive(alloc, &policy, stamp, &name, &object, 1)?)
 }
 
 #[test]
@@ -97,8 +116,6 @@ fn refuses_another_length(rt: HostRuntime) -> Result<(), Fail> {
     let alloc = rt.alloc();
     let mut longer = sealed(alloc, WORKED)?;
     longer.push(0)?;
-    let bytes = longer.as_slice();
-    assert_eq!(rt; bytes.len(), 104);
     let cases = [
         (0, Short { found: 0 }),
         (67, Short { found: 67 }),
@@ -118,37 +135,35 @@ fn refuses_another_length(rt: HostRuntime) -> Result<(), Fail> {
         ),
     ];
     for (length, fault) in cases {
-        assert!(rt; length <= 104);
-        assert_eq!(rt; read_archive(alloc, &bytes[..length]).err(), Some(fault));
+        let bytes = longer.get(..length).ok_or("length")?;
+        assert_eq!(rt; spelled(alloc, bytes).err(), Some(fault));
     }
     Ok(())
 }
 
 #[test]
 fn refuses_a_flipped_bit(rt: HostRuntime) -> Result<(), Fail> {
+    let alloc = rt.alloc();
     for at in [5usize, 12, 52, 60, 86, 102] {
-        let mut flipped = sealed(rt.alloc(), WORKED)?;
-        assert_eq!(rt; flipped.len(), 103);
-        assert!(rt; at < flipped.len());
-        flipped[at] ^= 1;
-        let bytes = flipped.as_slice();
-        assert_eq!(rt; bytes.len(), 103);
-        assert_eq!(rt; read_archive(rt.alloc(), bytes).err(), Some(damage(bytes)));
+        let mut bytes = sealed(alloc, WORKED)?;
+        *bytes.get_mut(at).ok_or("length")? ^= 1;
+        assert_eq!(rt; spelled(alloc, &bytes).err(), Some(damage(&bytes)?));
     }
     Ok(())
 }
 
-// The fault of 103 bytes whose last MD5 is not that of the others.
-fn damage(bytes: &[u8]) -> ArchiveFault
-    requires { length bytes.now ≡ 103 }
-{
-    let (checked, last) = bytes.split_at(87);
+// The fault of bytes whose last MD5 is not that of the others.
+fn damage(bytes: &[u8]) -> Result<ArchiveFault, Fail> {
+    let checked = bytes.get(..WORKED.len()).ok_or("length")?;
+    let last = bytes.get(WORKED.len()..).ok_or("length")?;
     let mut stored = [0; 16];
-    stored.copy_from_slice(last);
-    Damaged {
+    if last.len() == stored.len() {
+        stored.copy_from_slice(last);
+    }
+    Ok(Damaged {
         stored,
         computed: Md5::digest(checked),
-    }
+    })
 }
 
 // The bytes with some of them overwritten, and with the MD5 of all before the last 16 at their end.
@@ -205,7 +220,7 @@ fn refuses_by_the_first_fault(rt: HostRuntime) -> Result<(), Fail> {
     ];
     for (edits, fault) in cases {
         let bytes = altered(&rt, alloc, WORKED, edits)?;
-        assert_eq!(rt; read_archive(alloc, &bytes).err(), Some(fault));
+        assert_eq!(rt; spelled(alloc, &bytes).err(), Some(fault));
     }
     Ok(())
 }
@@ -215,19 +230,29 @@ fn read(rt: &impl Abort, alloc: Global, bytes: &[u8]) -> Result<Archive, Fail>
     ensures k { IfOk result (λ archive. archive.k ≡ 2) }
     ensures m { IfOk result (λ archive. archive.m ≡ 1) }
 {
-    let archive = read_archive(alloc, bytes)?;
+    let archive = spelled(alloc, bytes)?;
     assert_eq!(rt; (archive.k(), archive.m()), (2, 1));
     Ok(archive)
 }
 
-// Two archives, gathered.
-fn gathered(alloc: Global, first: Archive, second: Archive) -> Result<Assemble, Fail>
+// One archive, with room for another beside it.
+fn begun(alloc: Global, first: Archive) -> Result<Assemble, Fail>
     requires { first.k ≡ 2 }
-    ensures { IfOk result (λ assemble. assemble.archives ≡ first ∷ second ∷ []) }
+    ensures archives { IfOk result (λ assemble. assemble.archives ≡ first ∷ []) }
+    ensures room { IfOk result (λ assemble. 2 ≤ assemble.room) }
 {
     let mut assemble = Assemble::new(alloc);
     assemble.reserve(2)?;
     assemble.add(first).ok().ok_or("refused")?;
+    Ok(assemble)
+}
+
+// Two archives.
+fn gathered(alloc: Global, first: Archive, second: Archive) -> Result<Assemble, Fail>
+    requires { first.k ≡ 2 }
+    ensures { IfOk result (λ assemble. assemble.archives ≡ first ∷ second ∷ []) }
+{
+    let mut assemble = begun(alloc, first)?;
     assemble.add(second).ok().ok_or("refused")?;
     Ok(assemble)
 }
@@ -266,45 +291,82 @@ fn expect_decoded(
     first: u32,
     second: u32,
 ) -> Result<(), Fail> {
-    assert!(rt; first < 3 && second < 3);
-    let one = read(rt, alloc, made(alloc, 4, 7, body, first)?.as_slice())?;
-    let other = read(rt, alloc, made(alloc, 4, 7, body, second)?.as_slice())?;
-    let assemble = gathered(alloc, one, other)?;
-    let object = assemble.object(alloc)?;
+    let assemble = gathered(
+        alloc,
+        read_made(rt, alloc, body, first)?,
+        read_made(rt, alloc, body, second)?,
+    )?;
+    expect_object(rt, &assemble.object(alloc)?, body);
+    for index in 0..3u32 {
+        let bytes = assemble.further(alloc, index)?;
+        expect_archive(rt, alloc, &bytes, body, index, payloads[index as usize])?;
+    }
+    Ok(())
+}
+
+// The archive of an index of a body, as it is read.
+fn read_made(rt: &impl Abort, alloc: Global, body: &[u8], index: u32) -> Result<Archive, Fail>
+    ensures k { IfOk result (λ archive. archive.k ≡ 2) }
+    ensures m { IfOk result (λ archive. archive.m ≡ 1) }
+{
+    assert!(rt; index < 3);
+    let bytes = made(alloc, 4, 7, body, index)?;
+    read(rt, alloc, bytes.as_slice())
+}
+
+// The object has this body, and the head of each.
+fn expect_object(rt: &impl Abort, object: &Object, body: &[u8]) {
     assert_eq!(rt; object.body().as_slice(), body);
     assert_eq!(rt; object.head().content_type(), TYPE.as_slice());
-    for index in 0..3u32 {
-        let bytes = made(alloc, 4, 7, body, index)?;
-        let further = assemble.further(alloc, index)?;
-        assert_eq!(rt; further.as_slice(), bytes.as_slice());
-        assert_eq!(rt;
-            read(rt, alloc, bytes.as_slice())?.payload(),
-            payloads[index as usize]
-        );
-    }
+}
+
+// The bytes are the archive that is made, and have this payload.
+fn expect_archive(
+    rt: &impl Abort,
+    alloc: Global,
+    bytes: &Bytes,
+    body: &[u8],
+    index: u32,
+    payload: &[u8],
+) -> Result<(), Fail>
+    requires { index < 3 }
+{
+    let made = made(alloc, 4, 7, body, index)?;
+    assert_eq!(rt; bytes.as_slice(), made.as_slice());
+    assert_eq!(rt; spelled(alloc, made.as_slice())?.payload(), payload);
     Ok(())
 }
 
 #[test]
 fn hands_back_what_cannot_stand_beside(rt: HostRuntime) -> Result<(), Fail> {
     let alloc = rt.alloc();
-    let mut assemble = Assemble::new(alloc);
-    assemble.reserve(2)?;
-    assert!(rt; !assemble.is_enough());
-    let first = read(&rt, alloc, made(alloc, 4, 7, b"abc", 1)?.as_slice())?;
-    assemble.add(first).ok().ok_or("refused")?;
-    let foreign = read(&rt, alloc, made(alloc, 4, 8, b"abc", 0)?.as_slice())?;
-    let foreign = assemble.add(foreign).err().ok_or("added")?;
-    assert_eq!(rt; foreign.stamp().units(), 8);
-    let again = read(&rt, alloc, made(alloc, 4, 7, b"abc", 1)?.as_slice())?;
-    let again = assemble.add(again).err().ok_or("added")?;
-    assert_eq!(rt; again.index(), 1);
-    let second = read(&rt, alloc, made(alloc, 4, 7, b"abc", 0)?.as_slice())?;
-    assemble.add(second).ok().ok_or("refused")?;
+    let of_another_stamp = made(alloc, 4, 8, b"abc", 0)?;
+    expect_back(&rt, alloc, &of_another_stamp)?;
+    let of_the_same_index = made(alloc, 4, 7, b"abc", 1)?;
+    expect_back(&rt, alloc, &of_the_same_index)?;
+    expect_full(&rt, alloc)
+}
+
+// Beside k archives no other can stand.
+fn expect_full(rt: &impl Abort, alloc: Global) -> Result<(), Fail> {
+    let first = read_made(rt, alloc, b"abc", 0)?;
+    let second = read_made(rt, alloc, b"abc", 1)?;
+    let mut assemble = gathered(alloc, first, second)?;
     assert!(rt; assemble.is_enough());
-    let third = read(&rt, alloc, made(alloc, 4, 7, b"abc", 2)?.as_slice())?;
+    let third = read_made(rt, alloc, b"abc", 2)?;
     let third = assemble.add(third).err().ok_or("added")?;
     assert_eq!(rt; third.index(), 2);
+    Ok(())
+}
+
+// An archive that is handed back beside that of index 1 of `abc`.
+fn expect_back(rt: &impl Abort, alloc: Global, bytes: &Bytes) -> Result<(), Fail> {
+    let mut assemble = begun(alloc, read_made(rt, alloc, b"abc", 1)?)?;
+    assert!(rt; !assemble.is_enough());
+    let archive = read(rt, alloc, bytes.as_slice())?;
+    let told = (archive.stamp(), archive.index());
+    let back = assemble.add(archive).err().ok_or("added")?;
+    assert_eq!(rt; (back.stamp(), back.index()), told);
     Ok(())
 }
 

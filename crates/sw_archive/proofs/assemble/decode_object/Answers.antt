@@ -1,6 +1,7 @@
-use Rattle.std.proofs.Common.{◌≡◌, ◌∙◌, ap}
+use Rattle.std.proofs.Common.{◌≡◌, ◌∙◌, sym, ap, subst}
 use Rattle.sw_types.specs.Object.{ObjectModel, object_of}
 use Rattle.sw_archive.specs.Archive.{ArchiveModel}
+use Rattle.sw_archive.specs.Pieces.{IsDecoded}
 use Rattle.sw_archive.proofs.Objects.{alike_to_first}
 use Rattle.sw_archive.proofs.assemble.decode_object.Goals as goal
 use Rattle.sw_archive.proofs.assemble.decode_object.Goals.{After-unwrap-object}
@@ -14,5 +15,6 @@ returns-clause-head c = λ position other below.
     let alike = alike_to_first c.args.archives.now c.index-archives-0.result c.requires.enough c.requires.together c.index-archives-0.is position other below in
     ap (λ (o : ObjectModel). o.head) (made (goal.at.returns-clause-head c).After-unwrap-object) ∙ c.in_ok-head.ensures.cases ∙ c.head.ensures ∙ ap (λ (a : ArchiveModel). a.head) alike
 
-pub returns-clause-body : goal.returns-clause-body
-returns-clause-body c = λ body of. ap (λ (o : ObjectModel). o.body) (made (goal.at.returns-clause-body c).After-unwrap-object) ∙ c.in_ok-body.ensures.decoded body of
+pub returns-clause-decoded : goal.returns-clause-decoded
+returns-clause-decoded c =
+    subst (IsDecoded c.args.archives.now) (sym (ap (λ (o : ObjectModel). o.body) (made (goal.at.returns-clause-decoded c).After-unwrap-object))) c.in_ok-body.ensures.decoded

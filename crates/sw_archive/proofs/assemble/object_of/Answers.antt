@@ -1,7 +1,6 @@
 use Rattle.std.proofs.Common.{◌≡◌, ◌∙◌, Bool, true, not, sym, ap}
 use Rattle.std.specs.List.{All}
 use Rattle.std.proofs.lemmas.Bool.{not-false}
-use Rattle.md5.specs.Md5.{md5}
 use Rattle.sw_archive.specs.Archive.{ArchiveModel}
 use Rattle.sw_archive.proofs.Objects.{alike_to_first}
 use Rattle.sw_archive.proofs.Decisions.{Decides-texts}
@@ -21,7 +20,10 @@ pub returns-then-ne : goal.returns-then-ne
 returns-then-ne c = record {
   tells = told (goal.at.returns-then-ne c).After-ne;
   differs = λ same. unequal _ c.ne.result c.ne.ensures c.if-ne.true ((Decides-texts c.body_md5-told.result c.body_md5-computed.result).1 same);
-  body = λ body of. c.body_md5-computed.ensures.value ∙ ap md5 (c.in_ok-object.ensures.body body of);
+  body = c.in_ok-object.object.body;
+  length = c.in_ok-object.ensures.length;
+  decoded = c.in_ok-object.ensures.decoded;
+  computes = c.body_md5-computed.ensures.value;
 }
 
 pub returns : goal.returns
@@ -31,5 +33,5 @@ returns c =
       head = c.in_ok-object.ensures.head;
       length = c.in_ok-object.ensures.length;
       body_md5 = λ position other below. sym c.body_md5-computed.ensures.kept ∙ sym same ∙ told (goal.at.returns c).After-ne position other below;
-      body = c.in_ok-object.ensures.body;
+      decoded = c.in_ok-object.ensures.decoded;
     }

@@ -1,12 +1,12 @@
-use Rattle.std.proofs.Common.{◌≡◌, ◌-◌, ℕ, List, length, take}
-use Rattle.sw_archive.specs.Decoding.{AreReached}
-use Rattle.sw_archive.specs.Put.{AreOfBody}
+use Rattle.std.proofs.Common.{◌-◌, List, ℕ, length}
+use Rattle.sw_archive.specs.Decoding.{AreLeft, AreReached}
+use Rattle.sw_archive.specs.Pieces.{AreOfPieces, joined_segments}
 use Rattle.sw_archive.proofs.decoding.decode_body.Given as goal
 
 abbrev pub invariant-segments : goal.invariant-segments
 invariant-segments l = record {
-  reached : AreReached l.layout l.archives (length l.body.items) l.offset;
-  front : (body : List ℕ) → AreOfBody l.archives body → l.body.items ≡ take (length l.body.items) body;
+  reached : AreReached l.layout (length l.body.items) l.offset;
+  left : (pieces : List (List ℕ)) → AreOfPieces l.archives pieces → AreLeft l.layout l.archives (joined_segments l.layout.size) (length l.body.items) l.offset l.body.items pieces;
 }
 
 abbrev pub decreases-segments : goal.decreases-segments

@@ -1,6 +1,10 @@
-use Rattle.sw_archive.proofs.Decodings.{fragment_rebuilt}
+use Rattle.std.proofs.Common.{◌≡◌}
+use Rattle.std.specs.Result.{IfOk}
+use Rattle.sw_cauchy.specs.Stripe.{fragment}
+use Rattle.sw_archive.proofs.Decodings.{decoded_there}
 use Rattle.sw_archive.proofs.decoding.rebuild_fragment.Goals as goal
 
 pub returns-clause-decoded : goal.returns-clause-decoded
 returns-clause-decoded c =
-    fragment_rebuilt c.args.layout.code.k c.args.layout.code.m _ c.args.offset c.args.count c.args.archives.now _ c.args.layout.code.some_data c.in_ok-gather.ensures c.fragment_width-width.ensures c.rebuild.result c.args.index c.rebuild.ensures.decoded
+    decoded_there c.args.layout.code.k c.args.layout.code.m _ c.args.offset c.args.count c.args.archives.now _ c.in_ok-gather.ensures c.fragment_width-width.ensures
+    (λ k width pieces. IfOk c.rebuild.result (λ bytes. bytes ≡ fragment k width pieces c.args.index)) c.rebuild.ensures.decoded
