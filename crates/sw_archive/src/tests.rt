@@ -49,11 +49,17 @@ fn spelled(alloc: Global, bytes: &[u8]) -> Result<Archive, ArchiveFault> {
 }
 
 #[test]
-fn makes_the_worked_archive(rt: HostRuntime) -> Result<(), Fail> {
+fn makes_the_worked_archives(rt: HostRuntime) -> Result<(), Fail> {
     let alloc = rt.alloc();
-    let bytes = sealed(alloc, WORKED)?;
-    let made = made(alloc, 1_048_576, 100_000_000_000_000, b"abc", 0)?;
-    assert_eq!(rt; made.as_slice(), bytes.as_slice());
+    let payloads = [b"ab", b"c\x00", b"\x9f\x31"];
+    for index in 0..3u32 {
+        let mut bytes = Vec::from_slice(alloc, WORKED)?;
+        bytes[7] = index as u8;
+        bytes[85..].copy_from_slice(payloads[index as usize]);
+        let bytes = sealed(alloc, &bytes)?;
+        let made = made(alloc, 1_048_576, 100_000_000_000_000, b"abc", index)?;
+        assert_eq!(rt; made.as_slice(), bytes.as_slice());
+    }
     Ok(())
 }
 
