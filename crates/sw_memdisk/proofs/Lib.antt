@@ -1,0 +1,15 @@
+mod Busy
+mod BusyFolders
+mod Contents
+mod Crashed
+mod Disks
+mod Done
+mod Files
+mod FoundFiles
+mod Keeping
+mod Lookups
+mod Moments
+mod Ranks
+mod Readings
+mod Reserved
+mod Steps

@@ -1,0 +1,7 @@
+pub mod Change
+pub mod Disk
+pub mod Folder
+pub mod Held
+pub mod Laws
+pub mod Log
+pub mod Memory
