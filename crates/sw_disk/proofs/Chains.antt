@@ -1,12 +1,13 @@
 -- Runs of device calls, one after the other.
 use Rattle.std.proofs.Common.{◌≡◌, ◌≢◌, ◌⊎◌, inl, inr, ⊎_elim, ℕ, suc, ◌+◌, ◌-◌, ◌<◌, ◌≤◌, false, List, [], ◌∷◌, ◌++◌, length, map, take, Option, Some, None, refl, sym, ◌∙◌, ap, subst, arith, append_assoc, length-append}
+use Rattle.std.specs.Prelude.{IsSome}
 use Rattle.std.proofs.lemmas.List.{append-nil, map-append, take-append-le}
 use Rattle.std.proofs.Math.Seq.{take-append-add}
 use Rattle.sw_words.specs.Counts.{one_more}
-use Rattle.sw_disk.specs.Calls.{Call, Step, Do, Settle, calls_in}
+use Rattle.sw_disk.specs.Calls.{Call, ListFolders, ListNames, ReadFile, WriteTmp, SyncTmp, PublishTmp, RenameFile, RemoveFile, SyncDir, Step, Do, Settle, calls_in}
 use Rattle.sw_disk.specs.Folder.{Content, File, IsImage}
 use Rattle.sw_disk.specs.State.{Schedule, State, after, run, stopped, tick}
-use Rattle.sw_disk.specs.Runs.{FailsNext, GoOn, IfTold, IsUntouched, IsWithin, KeepsTemporary, LeavesOnly, NoneUnasked, Past, Runs, Seen, Stops, StopsTold}
+use Rattle.sw_disk.specs.Runs.{FailsNext, GoOn, IfTold, IsExact, IsUntouched, IsWithin, KeepsTemporary, LeavesOnly, NoneUnasked, Past, Runs, Seen, Stops, StopsTold, is_write}
 use Rattle.sw_disk.specs.declared.refusal.DiskRefusal.{DiskRefusal}
 use Rattle.sw_disk.specs.declared.refusal.DiskRefusal.TheVariants.{Failed}
 
@@ -41,6 +42,10 @@ run-schedule [] state = ticks-zero state.schedule
 run-schedule (Do call ∷ xs) state = run-schedule xs (after (Do call) state) ∙ ticks-tick (length (calls_in xs)) state.schedule
 run-schedule (Settle folder ∷ xs) state = run-schedule xs (after (Settle folder) state)
 
+some-ticks : (n : ℕ) (schedule : Option Schedule) → IsSome schedule → IsSome (ticks n schedule)
+some-ticks n None some = some
+some-ticks n (Some schedule) some = refl
+
 go_on-ticks : (schedule : Option Schedule) (m n : ℕ) → GoOn schedule m → GoOn (ticks m schedule) n → GoOn schedule (m + n)
 go_on-ticks None m n first next = tt
 go_on-ticks (Some schedule) m n first next = λ k below. ⊎_elim (λ less. first k less) (λ more. at_most k below more) (below_or k)
@@ -68,9 +73,9 @@ unasked-append : (xs ys : List Step) (state : State) → NoneUnasked state.sched
 unasked-append xs ys state first next =
     unasked-ticks state.schedule (length (calls_in xs)) xs ys first (subst (λ (s : Option Schedule). NoneUnasked s ys) (run-schedule xs state) next)
 
-keeps-ticks : (schedule : Option Schedule) (n : ℕ) (old new : Option Content) → KeepsTemporary (ticks n schedule) old new → KeepsTemporary schedule old new
-keeps-ticks None n old new keeps = tt
-keeps-ticks (Some schedule) n old new keeps = keeps
+keeps-ticks : (schedule : Option Schedule) (n : ℕ) (rest : List Call) (old new : Option Content) → KeepsTemporary (ticks n schedule) rest old new → KeepsTemporary schedule rest old new
+keeps-ticks None n rest old new keeps = keeps
+keeps-ticks (Some schedule) n rest old new keeps = keeps
 
 go_on-none : (schedule : Option Schedule) → GoOn schedule 0
 go_on-none None = tt
@@ -80,9 +85,22 @@ unasked-none : (schedule : Option Schedule) → NoneUnasked schedule []
 unasked-none None = tt
 unasked-none (Some schedule) = refl
 
-keeps-same : (schedule : Option Schedule) (content : Option Content) → KeepsTemporary schedule content content
-keeps-same None content = tt
-keeps-same (Some schedule) content = refl
+-- the first of some calls is that of these and more
+same_write : (rest more : List Call) → rest ≢ [] → is_write (rest ++ more) ≡ is_write rest
+same_write [] more some = absurd (some refl)
+same_write (ListFolders ∷ rest) more some = refl
+same_write (ListNames folder ∷ rest) more some = refl
+same_write (ReadFile folder name ∷ rest) more some = refl
+same_write (WriteTmp bytes ∷ rest) more some = refl
+same_write (SyncTmp ∷ rest) more some = refl
+same_write (PublishTmp folder name ∷ rest) more some = refl
+same_write (RenameFile folder from to ∷ rest) more some = refl
+same_write (RemoveFile folder name ∷ rest) more some = refl
+same_write (SyncDir folder ∷ rest) more some = refl
+
+keeps-more : (schedule : Option Schedule) (rest more : List Call) (old new : Option Content) → rest ≢ [] → KeepsTemporary schedule rest old new → KeepsTemporary schedule (rest ++ more) old new
+keeps-more None rest more old new some keeps = λ no. keeps (sym (same_write rest more some) ∙ no)
+keeps-more (Some schedule) rest more old new some keeps = keeps
 
 -- ---- moments within
 
@@ -105,9 +123,9 @@ within_back xs ys state folder image w = record {
 
 -- ---- stops
 
-stops-append : (xs ys : List Step) (refusal : Option DiskRefusal) (a b c : State) → Stops xs None a b → Stops ys refusal b c → Stops (xs ++ ys) refusal a c
-stops-append xs ys refusal a b c first second =
-    let next = subst (λ (s : State). Stops ys refusal s c) (first.whole refl) second in
+stops-append : (xs ys : List Step) (none rest : List Call) (refusal : Option DiskRefusal) (a b c : State) → Stops xs none None a b → Stops ys rest refusal b c → Stops (xs ++ ys) rest refusal a c
+stops-append xs ys none rest refusal a b c first second =
+    let next = subst (λ (s : State). Stops ys rest refusal s c) (first.whole refl) second in
     let n : ℕ = length (calls_in xs) in
     let joined : run ys (run xs a) ≡ run (xs ++ ys) a = sym (run-append xs ys a) in
     record {
@@ -116,27 +134,53 @@ stops-append xs ys refusal a b c first second =
       temporary = next.temporary;
       refused = λ reason is. next.refused reason is ∙ ap (stopped next.is_counted next.temporary) joined;
       kept = λ reason is.
-          subst (λ (s : State). KeepsTemporary a.schedule s.temporary next.temporary) joined
-          (keeps-ticks a.schedule n (run ys (run xs a)).temporary next.temporary
-          (subst (λ (s : Option Schedule). KeepsTemporary s (run ys (run xs a)).temporary next.temporary) (run-schedule xs a) (next.kept reason is)));
+          subst (λ (s : State). KeepsTemporary a.schedule rest s.temporary next.temporary) joined
+          (keeps-ticks a.schedule n rest (run ys (run xs a)).temporary next.temporary
+          (subst (λ (s : Option Schedule). KeepsTemporary s rest (run ys (run xs a)).temporary next.temporary) (run-schedule xs a) (next.kept reason is)));
       go_on = go_on-append xs ys a first.go_on next.go_on;
       fails = λ is. subst (λ (s : State). FailsNext s.schedule) joined (next.fails is);
       unasked = unasked-append xs ys a first.unasked next.unasked;
     }
 
-stops_told-append : (xs ys : List Step) (refusal : Option DiskRefusal) (a b c : Option State) → StopsTold xs None a b → StopsTold ys refusal b c → StopsTold (xs ++ ys) refusal a c
-stops_told-append xs ys refusal None b c first second = subst (λ (o : Option State). StopsTold ys refusal o c) first second
-stops_told-append xs ys refusal (Some a) b c first second =
-    let next = subst (λ (o : Option State). StopsTold ys refusal o c) first.1 second in
-    (next.0, next.1, stops-append xs ys refusal a first.0 next.0 first.2 next.2)
+stops_told-append : (xs ys : List Step) (none rest : List Call) (refusal : Option DiskRefusal) (a b c : Option State) → StopsTold xs none None a b → StopsTold ys rest refusal b c → StopsTold (xs ++ ys) rest refusal a c
+stops_told-append xs ys none rest refusal None b c first second = subst (λ (o : Option State). StopsTold ys rest refusal o c) first second
+stops_told-append xs ys none rest refusal (Some a) b c first second =
+    let next = subst (λ (o : Option State). StopsTold ys rest refusal o c) first.1 second in
+    (next.0, next.1, stops-append xs ys none rest refusal a first.0 next.0 first.2 next.2)
+
+stops_told-more : (steps : List Step) (rest more : List Call) (reason : DiskRefusal) (a b : Option State) → rest ≢ [] → StopsTold steps rest (Some reason) a b → StopsTold steps (rest ++ more) (Some reason) a b
+stops_told-more steps rest more reason None b some stops = stops
+stops_told-more steps rest more reason (Some a) b some stops =
+    let s = stops.2 in (
+      stops.0,
+      stops.1,
+      record {
+        whole = s.whole;
+        is_counted = s.is_counted;
+        temporary = s.temporary;
+        refused = s.refused;
+        kept = λ other is. keeps-more a.schedule rest more (run steps a).temporary s.temporary some (s.kept other is);
+        go_on = s.go_on;
+        fails = s.fails;
+        unasked = s.unasked;
+      },
+    )
+
+-- a disk that is exact stays so
+exact_after : (steps : List Step) (none : List Call) (a b : Option State) → StopsTold steps none None a b → IsExact a → IsExact b
+exact_after steps none None b stops exact = absurd (cc)
+exact_after steps none (Some a) b stops exact =
+    let told : b ≡ Some (run steps a) = stops.1 ∙ ap (λ (s : State). Some s) (stops.2.whole refl) in
+    subst IsExact (sym told) (subst (λ (s : Option Schedule). IsSome s) (sym (run-schedule steps a)) (some-ticks (length (calls_in steps)) a.schedule exact))
 
 front_told : (xs ys : List Step) (folder : List ℕ) (image : List File) (a : Option State) → IfTold a (λ s. IsWithin xs s folder image) → IfTold a (λ s. IsWithin (xs ++ ys) s folder image)
 front_told xs ys folder image None w = tt
 front_told xs ys folder image (Some a) w = within_front xs ys a folder image w
 
-back_told : (xs ys : List Step) (folder : List ℕ) (image : List File) (a b : Option State) → StopsTold xs None a b → IfTold b (λ s. IsWithin ys s folder image) → IfTold a (λ s. IsWithin (xs ++ ys) s folder image)
-back_told xs ys folder image None b told w = tt
-back_told xs ys folder image (Some a) b told w =
+back_told : (xs ys : List Step) (none : List Call) (folder : List ℕ) (image : List File) (a b : Option State) → StopsTold xs none None a b → IfTold b (λ s. IsWithin ys s folder image)
+    → IfTold a (λ s. IsWithin (xs ++ ys) s folder image)
+back_told xs ys none folder image None b told w = tt
+back_told xs ys none folder image (Some a) b told w =
     let at_b = subst (λ (o : Option State). IfTold o (λ s. IsWithin ys s folder image)) told.1 w in
     within_back xs ys a folder image (subst (λ (s : State). IsWithin ys s folder image) (told.2.whole refl) at_b)
 
@@ -153,21 +197,21 @@ not_none : (reason : DiskRefusal) → Some reason ≡ no_refusal → ⊥
 not_none reason is = cc
 
 -- nothing was done, and then maybe a call was refused before it was made
-stops-none : (refusal : Option DiskRefusal) (state : State) → refusal ≢ Some Failed → Stops [] refusal state state
-stops-none refusal state not_failed = record {
+stops-none : (rest : List Call) (refusal : Option DiskRefusal) (state : State) → refusal ≢ Some Failed → Stops [] rest refusal state state
+stops-none rest refusal state not_failed = record {
   whole = λ _. refl;
   is_counted = false;
   temporary = state.temporary;
   refused = λ reason is. refl;
-  kept = λ reason is. keeps-same state.schedule state.temporary;
+  kept = λ reason is no. refl;
   go_on = go_on-none state.schedule;
   fails = λ is. absurd (not_failed is);
   unasked = unasked-none state.schedule;
 }
 
-stops_told-none : (refusal : Option DiskRefusal) (told : Option State) → refusal ≢ Some Failed → StopsTold [] refusal told told
-stops_told-none refusal None not_failed = refl
-stops_told-none refusal (Some state) not_failed = (state, refl, stops-none refusal state not_failed)
+stops_told-none : (rest : List Call) (refusal : Option DiskRefusal) (told : Option State) → refusal ≢ Some Failed → StopsTold [] rest refusal told told
+stops_told-none rest refusal None not_failed = refl
+stops_told-none rest refusal (Some state) not_failed = (state, refl, stops-none rest refusal state not_failed)
 
 at_start : (steps : List Step) (folder : List ℕ) (image : List File) (told : Option State) → IfTold told (λ s. IsImage (s.folder folder) image) → IfTold told (λ s. IsWithin steps s folder image)
 at_start steps folder image None now = tt
@@ -197,10 +241,10 @@ module _ {D : Type 0} (seen : D → Seen) (left_since : D → Past) where
     split = refl;
     all = all;
     some = some;
-    told = stops_told-none refusal (seen disk).told not_failed;
+    told = stops_told-none calls refusal (seen disk).told not_failed;
     later = omega arith;
     nothing_else = λ t folder image le left. inl left;
-    keeps = λ t folder image le left. left;
+    keeps = λ exact t folder image le left. left;
     failed = λ is. absurd (not_failed is);
     quiet = λ _. refl;
   }
@@ -219,13 +263,13 @@ module _ {D : Type 0} (seen : D → Seen) (left_since : D → Past) where
     split = run.split;
     all = run.all;
     some = run.some;
-    told = subst (λ (o : Option State). StopsTold run.steps refusal o (seen c).told) same.told run.told;
+    told = subst (λ (o : Option State). StopsTold run.steps run.rest refusal o (seen c).told) same.told run.told;
     later = omega (arith, run.later, same.moment);
     nothing_else = λ t folder image le left. ⊎_elim
         (λ past. inl ((same.left t folder image).0 past))
         (λ w. inr (subst (λ (o : Option State). IfTold o (λ s. IsWithin run.steps s folder image)) same.told w))
         (run.nothing_else t folder image (omega (arith, le, same.moment)) left);
-    keeps = λ t folder image le left. run.keeps t folder image (omega (arith, le, same.moment)) ((same.left t folder image).1 left);
+    keeps = λ exact t folder image le left. run.keeps (subst IsExact (sym same.told) exact) t folder image (omega (arith, le, same.moment)) ((same.left t folder image).1 left);
     failed = λ is. run.failed is ∙ ap one_more same.faults;
     quiet = λ is. run.quiet is ∙ same.faults;
   }
@@ -245,16 +289,17 @@ module _ {D : Type 0} (seen : D → Seen) (left_since : D → Past) where
             ∙ sym (append_assoc (calls_in first.steps) (calls_in second.steps) second.rest) ∙ ap (λ (l : List Call). l ++ second.rest) (sym (calls_in-append first.steps second.steps));
         all = second.all;
         some = second.some;
-        told = stops_told-append first.steps second.steps refusal (seen a).told (seen b).told (seen c).told first.told second.told;
+        told = stops_told-append first.steps second.steps first.rest second.rest refusal (seen a).told (seen b).told (seen c).told first.told second.told;
         later = omega (arith, first.later, second.later);
         nothing_else = λ t folder image le left. ⊎_elim
             (λ past. ⊎_elim
             (λ before. inl before)
             (λ w. inr (front_told first.steps second.steps folder image (seen a).told w))
             (first.nothing_else t folder image le past))
-            (λ w. inr (back_told first.steps second.steps folder image (seen a).told (seen b).told first.told w))
+            (λ w. inr (back_told first.steps second.steps first.rest folder image (seen a).told (seen b).told first.told w))
             (second.nothing_else t folder image (omega (arith, le, first.later)) left);
-        keeps = λ t folder image le left. second.keeps t folder image (omega (arith, le, first.later)) (first.keeps t folder image le left);
+        keeps = λ exact t folder image le left.
+            second.keeps (exact_after first.steps first.rest (seen a).told (seen b).told first.told exact) t folder image (omega (arith, le, first.later)) (first.keeps exact t folder image le left);
         failed = λ is. second.failed is ∙ ap one_more quiet;
         quiet = λ is. second.quiet is ∙ quiet;
       }
@@ -267,7 +312,7 @@ module _ {D : Type 0} (seen : D → Seen) (left_since : D → Past) where
     split = ap (λ (l : List Call). l ++ ys) first.split ∙ append_assoc (calls_in first.steps) first.rest ys;
     all = λ is. absurd (not_none reason is);
     some = λ other is none. first.some other is (empty_front first.rest ys none);
-    told = first.told;
+    told = stops_told-more first.steps first.rest ys reason (seen a).told (seen b).told (first.some reason refl) first.told;
     later = first.later;
     nothing_else = first.nothing_else;
     keeps = first.keeps;
@@ -300,10 +345,10 @@ untold seen left_since call None a b told_a told_b later back on failed quiet = 
   split = refl;
   all = λ _. refl;
   some = λ reason is. absurd (none_not_some reason is);
-  told = subst (λ (o : Option State). StopsTold (Do call ∷ []) None o (seen b).told) (sym told_a) told_b;
+  told = subst (λ (o : Option State). StopsTold (Do call ∷ []) [] None o (seen b).told) (sym told_a) told_b;
   later = later;
   nothing_else = λ t folder image le left. inl (back t folder image left);
-  keeps = λ t folder image le left. on t folder image left;
+  keeps = λ exact t folder image le left. on t folder image left;
   failed = failed;
   quiet = quiet;
 }
@@ -313,10 +358,10 @@ untold seen left_since call (Some reason) a b told_a told_b later back on failed
   split = refl;
   all = λ is. absurd (not_none reason is);
   some = λ other is none. cc;
-  told = subst (λ (o : Option State). StopsTold [] (Some reason) o (seen b).told) (sym told_a) told_b;
+  told = subst (λ (o : Option State). StopsTold [] (call ∷ []) (Some reason) o (seen b).told) (sym told_a) told_b;
   later = later;
   nothing_else = λ t folder image le left. inl (back t folder image left);
-  keeps = λ t folder image le left. on t folder image left;
+  keeps = λ exact t folder image le left. on t folder image left;
   failed = failed;
   quiet = quiet;
 }

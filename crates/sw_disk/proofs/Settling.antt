@@ -70,11 +70,11 @@ some_synced (Some content) some = refl
 
 -- ---- what a disk that tells holds after calls that were all done
 
-carry_told : (steps : List Step) (a b : Option State) (P Q : State → Type 0) → StopsTold steps None a b → IfTold a P → ((state : State) → P state → Q (run steps state)) → IfTold b Q
-carry_told steps None b P Q told has after = subst (λ (o : Option State). IfTold o Q) (sym told) tt
-carry_told steps (Some a) b P Q told has after = subst (λ (o : Option State). IfTold o Q) (sym told.1) (subst Q (sym (told.2.whole refl)) (after a has))
+carry_told : (steps : List Step) (rest : List Call) (a b : Option State) (P Q : State → Type 0) → StopsTold steps rest None a b → IfTold a P → ((state : State) → P state → Q (run steps state)) → IfTold b Q
+carry_told steps rest None b P Q told has after = subst (λ (o : Option State). IfTold o Q) (sym told) tt
+carry_told steps rest (Some a) b P Q told has after = subst (λ (o : Option State). IfTold o Q) (sym told.1) (subst Q (sym (told.2.whole refl)) (after a has))
 
 pub carry : {D : Type 0} (seen : D → Seen) (left_since : D → Past) (calls : List Call) (a b : D) (P Q : State → Type 0) → Runs seen left_since calls None a b → IfTold (seen a).told P
     → ((steps : List Step) (state : State) → calls_in steps ≡ calls → P state → Q (run steps state)) → IfTold (seen b).told Q
 carry seen left_since calls a b P Q runs has after =
-    carry_told runs.steps (seen a).told (seen b).told P Q runs.told has (λ state holds. after runs.steps state (sym (steps_of seen left_since calls a b runs)) holds)
+    carry_told runs.steps runs.rest (seen a).told (seen b).told P Q runs.told has (λ state holds. after runs.steps state (sym (steps_of seen left_since calls a b runs)) holds)

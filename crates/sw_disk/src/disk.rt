@@ -1,10 +1,13 @@
 //! A disk of folders with named files.
 
-ghost use Rattle.std.specs.Prelude.{◌≡◌, ℕ, ◌<◌, ◌≤◌, Bool, List, [], ◌∷◌, IfOk, IfErr, OnOk, IsErrOf, IsSome, length};
+ghost use Rattle.std.specs.Prelude.{◌≡◌, ℕ, ◌<◌, ◌≤◌, Bool, List, [], ◌∷◌, IfOk, IfErr, OnErr, OnOk, IsErrOf, IsSome, length, sum_by};
+ghost use Rattle.std.specs.Cmp.Lexicographic.{slice_cmp};
+ghost use Rattle.std.specs.List.Sorted.{IsSorted};
+ghost use Rattle.std.specs.Ordering.{nat_cmp};
 ghost use Rattle.sw_disk.specs.Folder.{File, IsImage, files_of};
 ghost use Rattle.sw_disk.specs.Calls.{ListFolders, ListNames, ReadFile, WriteTmp, SyncTmp, PublishTmp, RenameFile, RemoveFile, SyncDir};
-ghost use Rattle.sw_disk.specs.State.{State, free_of};
-ghost use Rattle.sw_disk.specs.Runs.{Seen, Runs, IfTold, IsTelling, IsUntouched, refusal_of, KeepsRoom, TakesRoom};
+ghost use Rattle.sw_disk.specs.State.{State, free_of, size_of};
+ghost use Rattle.sw_disk.specs.Runs.{Seen, Runs, IfTold, IsCounted, IsTelling, IsUntouched, refusal_of, KeepsRoom, TakesRoom};
 ghost use Rattle.sw_disk.specs.Answers.{names_of, texts_of, HasBytes, HasFile, LacksFile, IsListing, AreFolders, IsFull, IsNotFull};
 ghost use Rattle.sw_disk.specs.declared.refusal.DiskRefusal.TheVariants.{Failed, NoMemory};
 
@@ -30,10 +33,13 @@ pub trait Disk {
     /// Whether disks of this type tell what they hold.
     ghost tells: { Bool };
 
-    /// The folders with a file or with a change of names that is not stable, ascending.
+    /// The folders with a file or with a change of names that is not stable, ascending. Their files are all that use bytes.
     fn folders(&mut self, alloc: Global) -> Result<Vec<String>, DiskRefusal>
         ensures folders { IfOk result (λ names. IfTold (seen self.old).told (λ state. AreFolders state (texts_of names.items))) }
+        ensures used { IfOk result (λ names. IfTold (seen self.old).told (λ state. state.used ≡ sum_by (λ name. size_of (state.folder name)) (texts_of names.items))) }
+        ensures sorted { IfOk result (λ names. IsSorted (slice_cmp nat_cmp) (texts_of names.items)) }
         ensures runs { Runs seen left_since (ListFolders ∷ []) (refusal_of result) self.old self.new }
+        ensures counted { IsCounted (seen self.old) (seen self.new) (refusal_of result) }
         ensures room { KeepsRoom (seen self.old) (seen self.new) }
         ensures never_full { IfErr result IsNotFull };
 
@@ -41,7 +47,9 @@ pub trait Disk {
     fn list(&mut self, alloc: Global, folder: &str) -> Result<Vec<String>, DiskRefusal>
         requires { length folder.now ≤ 64 }
         ensures names { IfOk result (λ names. IfTold (seen self.old).told (λ state. IsListing (names_of (files_of (state.folder folder.now))) (texts_of names.items))) }
+        ensures sorted { IfOk result (λ names. IsSorted (slice_cmp nat_cmp) (texts_of names.items)) }
         ensures runs { Runs seen left_since (ListNames folder.now ∷ []) (refusal_of result) self.old self.new }
+        ensures counted { IsCounted (seen self.old) (seen self.new) (refusal_of result) }
         ensures room { KeepsRoom (seen self.old) (seen self.new) }
         ensures never_full { IfErr result IsNotFull };
 
@@ -52,6 +60,7 @@ pub trait Disk {
         requires there { IfTold (seen self.old).told (λ state. HasFile state folder.now name.now) }
         ensures bytes { IfOk result (λ bytes. IfTold (seen self.old).told (λ state. HasBytes state folder.now name.now bytes)) }
         ensures runs { Runs seen left_since (ReadFile folder.now name.now ∷ []) (refusal_of result) self.old self.new }
+        ensures counted { IsCounted (seen self.old) (seen self.new) (refusal_of result) }
         ensures room { KeepsRoom (seen self.old) (seen self.new) }
         ensures never_full { IfErr result IsNotFull };
 
@@ -69,12 +78,14 @@ pub trait Disk {
         ensures full { (need free : ℕ) → IsErrOf result (DiskRefusal.Full need free) → IsFull need free (length bytes.now) (seen self.old).told }
         ensures fits { OnOk result (IfTold (seen self.old).told (λ state. length bytes.now ≤ free_of state)) }
         ensures runs { Runs seen left_since (WriteTmp bytes.now ∷ []) (refusal_of result) self.old self.new }
+        ensures counted { IsCounted (seen self.old) (seen self.new) (refusal_of result) }
         ensures room { KeepsRoom (seen self.old) (seen self.new) };
 
     /// Makes the bytes of the temporary file stable.
     fn sync_tmp(&mut self) -> Result<(), DiskRefusal>
         requires { IfTold (seen self.old).told (λ state. IsSome state.temporary) }
         ensures runs { Runs seen left_since (SyncTmp ∷ []) (refusal_of result) self.old self.new }
+        ensures counted { IsCounted (seen self.old) (seen self.new) (refusal_of result) }
         ensures room { KeepsRoom (seen self.old) (seen self.new) }
         ensures cause { IfErr result (λ refusal. refusal ≡ Failed) };
 
@@ -86,7 +97,9 @@ pub trait Disk {
         requires new { IfTold (seen self.old).told (λ state. LacksFile state folder.now name.now) }
         requires room { 0 < (seen self.old).room folder.now }
         ensures runs { Runs seen left_since (PublishTmp folder.now name.now ∷ []) (refusal_of result) self.old self.new }
+        ensures counted { IsCounted (seen self.old) (seen self.new) (refusal_of result) }
         ensures room { TakesRoom folder.now (seen self.old) (seen self.new) }
+        ensures kept { OnErr result (KeepsRoom (seen self.old) (seen self.new)) }
         ensures cause { IfErr result (λ refusal. refusal ≡ Failed) };
 
     /// Gives a file another name of its folder, which is not there.
@@ -98,7 +111,9 @@ pub trait Disk {
         requires new { IfTold (seen self.old).told (λ state. LacksFile state folder.now to.now) }
         requires room { 0 < (seen self.old).room folder.now }
         ensures runs { Runs seen left_since (RenameFile folder.now from.now to.now ∷ []) (refusal_of result) self.old self.new }
+        ensures counted { IsCounted (seen self.old) (seen self.new) (refusal_of result) }
         ensures room { TakesRoom folder.now (seen self.old) (seen self.new) }
+        ensures kept { OnErr result (KeepsRoom (seen self.old) (seen self.new)) }
         ensures cause { IfErr result (λ refusal. refusal ≡ Failed) };
 
     /// Removes a file.
@@ -108,13 +123,16 @@ pub trait Disk {
         requires there { IfTold (seen self.old).told (λ state. HasFile state folder.now name.now) }
         requires room { 0 < (seen self.old).room folder.now }
         ensures runs { Runs seen left_since (RemoveFile folder.now name.now ∷ []) (refusal_of result) self.old self.new }
+        ensures counted { IsCounted (seen self.old) (seen self.new) (refusal_of result) }
         ensures room { TakesRoom folder.now (seen self.old) (seen self.new) }
+        ensures kept { OnErr result (KeepsRoom (seen self.old) (seen self.new)) }
         ensures cause { IfErr result (λ refusal. refusal ≡ Failed) };
 
     /// Makes the changes of names of a folder stable.
     fn sync_dir(&mut self, folder: &str) -> Result<(), DiskRefusal>
         requires { length folder.now ≤ 64 }
         ensures runs { Runs seen left_since (SyncDir folder.now ∷ []) (refusal_of result) self.old self.new }
+        ensures counted { IsCounted (seen self.old) (seen self.new) (refusal_of result) }
         ensures room { KeepsRoom (seen self.old) (seen self.new) }
         ensures cause { IfErr result (λ refusal. refusal ≡ Failed) };
 

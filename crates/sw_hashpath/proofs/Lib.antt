@@ -1,3 +1,4 @@
 pub mod Digests
+mod FileNames
 pub mod Hashes
 pub mod Partitions

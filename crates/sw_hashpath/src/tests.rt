@@ -1,9 +1,9 @@
-//! Places and folders.
+//! Places, folders and names of files.
 
 use super::*;
 use hex::FromHex;
 use std::test::Fail;
-use sw_types::Name;
+use sw_types::{Name, Stamp};
 
 #[test]
 fn reads_what_it_prints(rt: HostRuntime) -> Result<(), Fail> {
@@ -85,6 +85,40 @@ fn hashes_a_path_between_prefix_and_suffix(rt: HostRuntime) -> Result<(), Fail> 
         let place = place_name(alloc, &name, prefix.as_bytes(), suffix.as_bytes(), 4)?;
         let hash = <[u8; 16] as FromHex>::from_hex(digits)?;
         assert_eq!(rt; place, place_of(hash, 4));
+    }
+    Ok(())
+}
+
+#[test]
+fn reads_file_names_that_it_prints(rt: HostRuntime) -> Result<(), Fail> {
+    let stamp = Stamp::make(100_000_000_000_000).ok_or("too many units")?;
+    let data = |durable| FileName::Data {
+        stamp,
+        index: 3,
+        durable,
+    };
+    let cases = [
+        (data(false), "1000000000.00000#3.data"),
+        (data(true), "1000000000.00000#3#d.data"),
+        (FileName::Tombstone { stamp }, "1000000000.00000.ts"),
+    ];
+    for (name, text) in cases {
+        assert_eq!(rt; name.print(rt.alloc())?.as_str(), text);
+        assert_eq!(rt; FileName::read(text), Some(name), "at {text}");
+    }
+    let others = [
+        "1000000000.00000#03.data",
+        "1000000000.0#3.data",
+        "1000000000.00000#32.data",
+        "1000000000.00000#.data",
+        "1000000000.00000#3#d#d.data",
+        "1000000000.00000#3.dat",
+        "1000000000.00000.tsx",
+        "1000000000.00000",
+        "",
+    ];
+    for text in others {
+        assert_eq!(rt; FileName::read(text), None, "at {text}");
     }
     Ok(())
 }

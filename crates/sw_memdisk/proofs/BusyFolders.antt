@@ -1,5 +1,5 @@
 -- The names of the folders that are busy.
-use Rattle.std.proofs.Common.{◌≡◌, ◌≢◌, ℕ, zero, suc, ◌+◌, ◌<◌, Bool, true, false, cond, not, ◌||◌, ◌==◌, List, [], ◌∷◌, filter, map, length, get_or, Ordering, Less, Equal, Greater, refl, sym, ap, subst, ◌∙◌, arith}
+use Rattle.std.proofs.Common.{◌≡◌, ◌≢◌, ℕ, zero, suc, ◌+◌, ◌<◌, Bool, true, false, cond, not, ◌||◌, ◌==◌, List, [], ◌∷◌, filter, map, length, get_or, sum_by, Ordering, Less, Equal, Greater, refl, sym, ap, subst, ◌∙◌, arith}
 use Rattle.std.specs.Cmp.Lexicographic.{nat_list_eq_equiv, same_text, slice_cmp}
 use Rattle.std.specs.List.{AllByRecursion, AllPairs, Contains}
 use Rattle.std.specs.List.Sorted.{IsSorted, IsStrictlySortedBy}
@@ -7,10 +7,12 @@ use Rattle.std.specs.Ordering.{is_lt, nat_cmp, ordering_reverse}
 use Rattle.std.proofs.lemmas.Cmp.{nat_list_cmp_total}
 use Rattle.std.proofs.lemmas.Grind.{common_steps}
 use Rattle.std.proofs.lemmas.List.Kept.{AllPairs-cons}
+use Rattle.std.proofs.lemmas.List.Sums.{sum_by-cons}
 use Rattle.sw_disk.specs.Answers.{AreFolders, IsBusy}
 use Rattle.sw_disk.specs.Folder.{Change, File, same_name}
 use Rattle.sw_memdisk.specs.Log.{files_now, folder_of}
-use Rattle.sw_memdisk.specs.Memory.{FolderModel, IsAscending, Kept, MemDiskModel, busy_in, folder_at, is_busy, state_of}
+use Rattle.sw_memdisk.specs.Memory.{FolderModel, IsAscending, Kept, MemDiskModel, busy_in, bytes_in, folder_at, is_busy, state_of, used_by}
+use Rattle.sw_memdisk.proofs.Lookups.{used_more}
 use Rattle.sw_memdisk.proofs.Readings.{files_of_now}
 
 abbrev order : List ℕ → List ℕ → Ordering
@@ -151,3 +153,48 @@ are_folders disk up listing is =
         λ busy. busy_there disk.folders name (is_busy-from (folder_at disk.folders name) busy),
       );
     })
+
+-- ---- all bytes are theirs
+
+no_file : (files : List File) (pending : Bool) → (not (length files == 0) || pending) ≡ false → files ≡ []
+no_file [] pending idle = refl
+no_file (file ∷ files) pending idle = let some = some_length (length files) in absurd (cc)
+
+idle_bytes : (folder : FolderModel) → is_busy folder ≡ false → bytes_in folder ≡ 0
+idle_bytes folder idle =
+    ap (sum_by (λ (file : File). length file.content.bytes)) (files_of_now folder.log ∙ no_file (files_now folder.log) (not (length (folder_of folder.log).pending == 0)) idle)
+
+module _ (kept : Kept) (folders : List Kept) where
+  abbrev with_it : List ℕ → ℕ
+  with_it name = bytes_in (folder_at (kept ∷ folders) name)
+
+  abbrev without : List ℕ → ℕ
+  without name = bytes_in (folder_at folders name)
+
+  another : (name : List ℕ) → order kept.name name ≡ Less → with_it name ≡ without name
+  another name less = pick (same_name kept.name name) refl
+    where
+      pick : (b : Bool) → same_name kept.name name ≡ b → bytes_in (cond b kept.folder (folder_at folders name)) ≡ without name
+      pick true same = absurd (never_itself kept.name name less (same_text kept.name name (sym same)))
+      pick false same = refl
+
+  others : (names : List (List ℕ)) → AllByRecursion (λ (b : List ℕ). order kept.name b ≡ Less) names → sum_by with_it names ≡ sum_by without names
+  others [] all = refl
+  others (name ∷ names) all = sum_by-cons with_it name names ∙ ap (λ n. n + sum_by with_it names) (another name all.0) ∙ ap (λ n. without name + n) (others names all.1) ∙ sym (sum_by-cons without name names)
+
+  itself : with_it kept.name ≡ bytes_in kept.folder
+  itself = ap (λ (b : Bool). bytes_in (cond b kept.folder (folder_at folders kept.name))) (nat_list_eq_equiv.refl kept.name)
+
+pub busy_used : (folders : List Kept) → IsAscending folders → used_by folders ≡ sum_by (λ name. bytes_in (folder_at folders name)) (busy_in folders)
+unfolding IsStrictlySortedBy
+busy_used [] up = refl
+busy_used (kept ∷ folders) up =
+    used_more kept folders ∙ ap (λ n. bytes_in kept.folder + n) (busy_used folders up.1 ∙ sym (others kept folders (busy_in folders) (below_busy (λ (b : List ℕ). order kept.name b ≡ Less) folders up.0)))
+    ∙ pick (busy kept) refl
+  where
+    f : List ℕ → ℕ
+    f = with_it kept folders
+
+    pick : (b : Bool) → busy kept ≡ b → bytes_in kept.folder + sum_by f (busy_in folders) ≡ sum_by f (names_in (cond b (kept ∷ filter busy folders) (filter busy folders)))
+    pick true is = ap (λ n. n + sum_by f (busy_in folders)) (sym (itself kept folders)) ∙ sym (sum_by-cons f kept.name (busy_in folders))
+    pick false is = let none : bytes_in kept.folder ≡ 0 = idle_bytes kept.folder is in omega (arith, none)

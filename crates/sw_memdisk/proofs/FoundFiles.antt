@@ -1,5 +1,5 @@
 -- What is read of a disk in memory.
-use Rattle.std.proofs.Common.{◌≡◌, ℕ, List, Option, Some, None, false, refl, sym, ◌∙◌, ap, subst}
+use Rattle.std.proofs.Common.{◌≡◌, ℕ, List, Option, Some, None, false, true, refl, sym, ◌∙◌, ap, subst}
 use Rattle.std.specs.Option.{IsSome, is_some, option_map}
 use Rattle.std.proofs.lemmas.Option.{same_Some}
 use Rattle.sw_disk.specs.Answers.{HasBytes, IsListing, content_in, names_of}
@@ -43,6 +43,18 @@ pub is_missing : {A : Type 0} (disk : MemDiskModel) (folder name : List ℕ) (f 
     → option_map f result ≡ option_map (λ content. content.bytes) (content_at name (files_now (log_at disk.folders folder))) → is_some result ≡ false → content_in (state_of disk) folder name ≡ None
 is_missing disk folder name f result is none =
     ap (content_at name) (files_of_now (log_at disk.folders folder)) ∙ none_too f (λ (content : Content). content.bytes) result (content_at name (files_now (log_at disk.folders folder))) is none
+
+-- where something is found there is one
+some_too : {A B C : Type 0} (f : A → C) (g : B → C) (x : Option A) (y : Option B) → option_map f x ≡ option_map g y → is_some x ≡ true → IsSome y
+some_too f g None y is some = absurd (cc)
+some_too f g (Some x) None is some = absurd (cc)
+some_too f g (Some x) (Some y) is some = refl
+
+pub is_found : {A : Type 0} (disk : MemDiskModel) (folder name : List ℕ) (f : A → List ℕ) (result : Option A)
+    → option_map f result ≡ option_map (λ content. content.bytes) (content_at name (files_now (log_at disk.folders folder))) → is_some result ≡ true → IsSome (content_in (state_of disk) folder name)
+is_found disk folder name f result is some =
+    subst IsSome (ap (content_at name) (sym (files_of_now (log_at disk.folders folder))))
+    (some_too f (λ (content : Content). content.bytes) result (content_at name (files_now (log_at disk.folders folder))) is some)
 
 -- the names of a folder's files
 pub names_read : (disk counted : MemDiskModel) (folder : List ℕ) (names : List (List ℕ)) → counted.folders ≡ disk.folders → IsListing (names_of (files_now (log_at counted.folders folder))) names

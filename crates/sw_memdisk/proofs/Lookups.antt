@@ -50,7 +50,7 @@ no_value : (folder : FolderModel) → None ≡ Some folder → ⊥
 no_value folder is = cc
 
 -- the bytes of one folder and of the others
-used_more : (kept : Kept) (folders : List Kept) → used_by (kept ∷ folders) ≡ bytes_in kept.folder + used_by folders
+pub used_more : (kept : Kept) (folders : List Kept) → used_by (kept ∷ folders) ≡ bytes_in kept.folder + used_by folders
 used_more kept folders = sum_by-cons (λ (k : Kept). bytes_in k.folder) kept folders
 
 abbrev kept_entry : String Global × FolderModel → Kept

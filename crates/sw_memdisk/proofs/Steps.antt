@@ -82,7 +82,7 @@ module _ (a b : MemDiskModel) (ticks : b.calls ≡ a.calls + 1) (sound : (name :
         is_counted = false;
         temporary = None;
         refused = λ reason not. cc;
-        kept = λ reason not. cc;
+        kept = λ reason not _. cc;
         go_on = λ k below. let zero : a.calls + k + 1 ≡ a.calls + 1 = omega (arith, below) in ap (fails a) zero ∙ goes_on;
         fails = λ not. cc;
         unasked = refl;
@@ -92,7 +92,7 @@ module _ (a b : MemDiskModel) (ticks : b.calls ≡ a.calls + 1) (sound : (name :
     nothing_else = λ t name image le left. ⊎_elim (λ past. inl past)
         (λ now. inr (record { count = 1; within = omega arith; left = subst (λ (s : State). IsImage (s.folder name) image) is now }))
         (time_back t name image le left);
-    keeps = time_keeps;
+    keeps = λ exact. time_keeps;
     failed = λ not. cc;
     quiet = λ _. faults;
   }
@@ -126,7 +126,7 @@ module _ (a b : MemDiskModel) (later : a.calls ≤ b.calls) (same : b.folders �
         is_counted = is_counted;
         temporary = a.temporary;
         refused = λ other e. is;
-        kept = λ other e. refl;
+        kept = λ other e _. refl;
         go_on = λ k below. absurd (omega (arith, below));
         fails = λ e. failing (same_Some _ _ e);
         unasked = refl;
@@ -134,7 +134,7 @@ module _ (a b : MemDiskModel) (later : a.calls ≤ b.calls) (same : b.folders �
     );
     later = later;
     nothing_else = λ t name image le left. inl (still t name image le left);
-    keeps = back;
+    keeps = λ exact. back;
     failed = λ e. failed (same_Some _ _ e);
     quiet = λ not. quiet (λ e. not (ap Some e));
   }

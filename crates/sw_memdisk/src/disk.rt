@@ -1,6 +1,6 @@
 //! A disk in memory.
 
-ghost use Rattle.std.specs.Prelude.{◌≡◌, ◌^◌, ◌+◌, ◌-◌, ◌<◌, ◌≤◌, List, ℕ, false, true, IfErr, IfOk, OnErr, OnOk, [], min, Some, None, option_map, slice_get};
+ghost use Rattle.std.specs.Prelude.{◌≡◌, ◌^◌, ◌+◌, ◌-◌, ◌<◌, ◌≤◌, List, ℕ, false, true, IfErr, IfOk, OnErr, OnOk, [], min, Some, None, option_map, slice_get, sum_by};
 ghost use Rattle.sw_words.specs.Counts.{last_count, one_more};
 ghost use Rattle.sw_disk.specs.Answers.{AreFolders, IsListing, names_of, texts_of};
 ghost use Rattle.sw_disk.specs.Folder.{IsImage, content_at};
@@ -9,7 +9,7 @@ ghost use Rattle.sw_disk.specs.declared.refusal.DiskRefusal.TheVariants.{Failed}
 ghost use Rattle.sw_memdisk.specs.Change.{AreShort, change_of};
 ghost use Rattle.sw_memdisk.specs.Held.{content_of};
 ghost use Rattle.sw_memdisk.specs.Log.{IsSound, files_now, folder_of, with_change, with_sync};
-ghost use Rattle.sw_memdisk.specs.Memory.{Becomes, IsRoomier, crashed, fails, fails_at, log_at, room_at, state_of, used_by};
+ghost use Rattle.sw_memdisk.specs.Memory.{Becomes, IsRoomier, bytes_in, crashed, fails, fails_at, folder_at, log_at, room_at, state_of, used_by};
 
 use crate::change::NameChange;
 use crate::folder::MemFolder;
@@ -183,7 +183,8 @@ impl MemDisk {
 
     // The names of the folders with a file or with a change of names that is not stable, ascending.
     pub(crate) fn busy(&self, alloc: Global) -> Result<Vec<String>, NoMemory>
-        ensures { IfOk result (λ names. AreFolders (state_of self.now) (texts_of names.items)) }
+        ensures folders { IfOk result (λ names. AreFolders (state_of self.now) (texts_of names.items)) }
+        ensures used { IfOk result (λ names. used_by self.now.folders ≡ sum_by (λ name. bytes_in (folder_at self.now.folders name)) (texts_of names.items)) }
     {
         busy_names(alloc, &self.folders)
     }

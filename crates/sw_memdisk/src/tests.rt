@@ -7,6 +7,7 @@ use std::alloc::Global;
 use std::process::Abort;
 use std::test::Fail;
 use sw_disk::{Disk, DiskRefusal};
+use sw_types::Bytes;
 
 fn disk(alloc: Global, capacity: u64, failing: &[u64]) -> Result<MemDisk, Fail> {
     Ok(MemDisk::new(alloc, capacity, failing.to_vec(alloc)?))
@@ -116,4 +117,62 @@ fn expect_names(rt: &impl Abort, disk: &MemDisk, names: &[&str]) {
     for place in 0..4usize {
         assert_eq!(rt; disk.name_at("f", place), names.get(place).copied());
     }
+}
+
+#[test]
+fn lists_reads_renames_and_removes(rt: HostRuntime) -> Result<(), Fail> {
+    let alloc = rt.alloc();
+    let mut disk = disk(alloc, 9, &[])?;
+    keep(&mut disk, alloc, "b", b"12", true)?;
+    keep(&mut disk, alloc, "a", b"3", true)?;
+    rename(&mut disk, alloc, "b", "c")?;
+    expect_names(&rt, &disk, &["a", "c"]);
+    let names = disk.list(alloc, "f")?;
+    assert_eq!(rt; names.len(), 2);
+    assert_eq!(rt; read(&mut disk, alloc, "c")?.as_slice(), b"12".as_slice());
+    remove(&mut disk, alloc, "a")?;
+    expect_names(&rt, &disk, &["c"]);
+    let folders = disk.folders(alloc)?;
+    assert_eq!(rt; folders.first().map(|name| name.as_str()), Some("f"));
+    assert_eq!(rt;
+        disk.write_tmp(alloc, &[0; 8]),
+        Err(DiskRefusal::Full { need: 8, free: 7 })
+    );
+    Ok(())
+}
+
+// A file of the folder `f` gets a name that is not there.
+fn rename(disk: &mut MemDisk, alloc: Global, from: &str, to: &str) -> Result<(), Fail>
+    requires from { length from.now ≤ 96 }
+    requires to { length to.now ≤ 96 }
+{
+    disk.ready(alloc, "f", 1)?;
+    if disk.file("f", to).is_some() {
+        return Err("it is there".into());
+    }
+    if !disk.file("f", from).is_some() {
+        return Err("it is not there".into());
+    }
+    disk.rename("f", from, to)?;
+    Ok(())
+}
+
+fn remove(disk: &mut MemDisk, alloc: Global, name: &str) -> Result<(), Fail>
+    requires { length name.now ≤ 96 }
+{
+    disk.ready(alloc, "f", 1)?;
+    if !disk.file("f", name).is_some() {
+        return Err("it is not there".into());
+    }
+    disk.remove("f", name)?;
+    Ok(())
+}
+
+fn read(disk: &mut MemDisk, alloc: Global, name: &str) -> Result<Bytes, Fail>
+    requires { length name.now ≤ 96 }
+{
+    if !disk.file("f", name).is_some() {
+        return Err("it is not there".into());
+    }
+    Ok(disk.read(alloc, "f", name)?)
 }
