@@ -1,0 +1,6 @@
+mod Directories
+mod Listed
+mod Listings
+mod Obsoletes
+mod Ordered
+mod Texts

@@ -1,0 +1,34 @@
+use Rattle.std.proofs.Common.{◌+◌, ℕ, List, Vec, Global, take, sym, ap, subst, ◌∙◌, arith, rules}
+use Rattle.std.specs.Bool.{⊤}
+use Rattle.std.specs.Ordering.{nat_cmp}
+use Rattle.std.proofs.lemmas.Cmp.{nat_cmp_total}
+use Rattle.sw_hashpath.specs.declared.file_name.FileName.TheVariants.{Tombstone}
+use Rattle.sw_hashdir.proofs.Listed.{AreKept, kept_here, kept_past, kept_permuted, kept_whole, sorted_by_key, strictly}
+use Rattle.sw_hashdir.proofs.Listings.{nat_equal, nat_less, one_tombstone}
+use Rattle.sw_hashdir.proofs.listing.tombstones_of.Goals as goal
+use Rattle.sw_hashdir.proofs.listing.tombstones_of.Goals.{After-sort_unstable_by_key, in-Tombstone+in_ok-push, in_default}
+
+abbrev items_of : Vec ℕ Global → List ℕ
+items_of v = v.items
+
+pub loop-name-preserved : goal.loop-name-preserved
+loop-name-preserved c = elim c.match-name.branch [
+  | in-Tombstone+in_ok-push w ↦ kept_here (λ stamp. Tombstone stamp) (λ stamp. ⊤) one_tombstone c.args.names.now c.loop-name.name-index c.loop-name.stamps.items c.match-name.stamps.items
+      c.name-item.result w.in-Tombstone.stamp c.requires c.loop-name-test.true c.name-item.is c.loop-name.invariant tt (sym w.in-Tombstone.is) (ap items_of w.stamps-is ∙ w.in_ok-push.ensures.items)
+  | in_default w ↦ subst (λ kept. AreKept (λ stamp. Tombstone stamp) (λ stamp. ⊤) (take (c.loop-name.name-index + 1) c.args.names.now) kept) (ap items_of (sym w.stamps-is))
+      (kept_past (λ stamp. Tombstone stamp) (λ stamp. ⊤) c.args.names.now c.loop-name.name-index c.loop-name.stamps.items c.name-item.result c.loop-name-test.true c.name-item.is
+      (λ stamp holds named. w.in_default.not-Tombstone stamp (sym named)) c.loop-name.invariant)
+]
+
+kept : (c : After-sort_unstable_by_key) → AreKept (λ stamp. Tombstone stamp) (λ stamp. ⊤) c.args.names.now c.sort_unstable_by_key.new.self.items
+kept c = kept_permuted _ _ _ _ _ c.sort_unstable_by_key.ensures.permutation (kept_whole _ _ c.args.names.now c.loop-name.name-index c.loop-name.stamps.items (omega arith) c.loop-name.invariant)
+
+pub returns-clause-all : goal.returns-clause-all
+returns-clause-all c = λ stamp.
+    let whole = kept (goal.at.returns-clause-all c).After-sort_unstable_by_key in
+    (λ has. (whole.found stamp has).1, λ has. whole.all stamp tt has)
+
+pub returns-clause-ascend : goal.returns-clause-ascend
+returns-clause-ascend c = λ i j d lt within.
+    let whole = kept (goal.at.returns-clause-ascend c).After-sort_unstable_by_key in
+    nat_less _ _ (strictly nat_cmp_total _ (sorted_by_key (λ (stamp : ℕ). stamp) nat_cmp _ c.sort_unstable_by_key.ensures.sorted (λ a r q k. search rules)) whole.distinct (λ a b first second tie. nat_equal a b tie) i j d lt within)

@@ -1,0 +1,143 @@
+//! Directories of folders.
+
+ghost use Rattle.std.specs.Prelude.{◌≡◌, ◌≢◌, ◌↔◌, ◌⊎◌, ◌∷◌, ◌++◌, [], List, Contains, IfOk, Some, map, string_bytes};
+ghost use Rattle.std.specs.List.{AllPairs};
+ghost use Rattle.sw_hashpath.specs.FileName.{IsFileName};
+ghost use Rattle.sw_hashpath.specs.declared.file_name.FileName.{FileName as AFileName};
+ghost use Rattle.sw_hashdir.specs.Directory.{IsDirectory, IsFloor};
+ghost use Rattle.sw_hashdir.specs.Normal.{IsAfter, Replaces};
+
+use crate::floor::{Floor, FloorKind};
+use std::alloc::Global;
+use std::marker::Model;
+use sw_hashpath::FileName;
+use sw_types::NoMemory;
+
+/// The directory of a folder: the names of its files, each once.
+#[derive(Debug, Drop)]
+pub struct HashDir {
+    pub(crate) names: Vec<FileName>,
+}
+
+impl Model for HashDir {
+    ghost use Rattle.std.specs.Prelude.{◌≢◌, List, Contains};
+    ghost use Rattle.std.specs.List.{AllPairs};
+    ghost use Rattle.sw_hashpath.specs.FileName.{IsFileName};
+    ghost use Rattle.sw_hashpath.specs.declared.file_name.FileName.{FileName as AFileName};
+
+    ghost Value = { List AFileName };
+
+    ghost view = { λ dir. dir.names.items };
+
+    ghost invariant = { λ dir. record {
+      distinct : AllPairs (λ a b. a ≢ b) dir.names.items;
+      named : (name : AFileName) → Contains dir.names.items name → IsFileName name;
+    } };
+}
+
+impl HashDir {
+    /// The directory of a folder with files of these names. Texts that are no name of a file are left out.
+    pub fn of(alloc: Global, texts: &[String]) -> Result<HashDir, NoMemory>
+        ensures { IfOk result (λ dir. IsDirectory (map string_bytes texts.now) dir) }
+    {
+        let mut names = Vec::new(alloc);
+        for text in texts {
+            if let Some(name) = FileName::read(text.as_str()) {
+                add(&mut names, name)?;
+            }
+        }
+        Ok(HashDir { names })
+    }
+
+    /// The floor. It takes no memory.
+    pub fn floor(&self) -> Option<Floor>
+        ensures { IsFloor self.now result }
+    {
+        let mut floor = None;
+        for name in &self.names {
+            floor = greater(floor, floor_of(name));
+        }
+        floor
+    }
+
+    /// The directory once a file of this name was made. A durable name takes the place of its plain one.
+    pub fn after(&self, alloc: Global, made: FileName) -> Result<HashDir, NoMemory>
+        requires { IsFileName made }
+        ensures { IfOk result (λ dir. IsAfter made self.now dir) }
+    {
+        let mut names = Vec::new(alloc);
+        let plain = plain_of(&made);
+        for name in &self.names {
+            if plain != Some(*name) {
+                add(&mut names, *name)?;
+            }
+        }
+        add(&mut names, made)?;
+        Ok(HashDir { names })
+    }
+}
+
+// Adds a name that is not there.
+fn add(names: &mut Vec<FileName>, name: FileName) -> Result<(), NoMemory>
+    ensures names { IfOk result (λ _. (other : AFileName) → Contains names.new.items other ↔ ((other ≡ name) ⊎ Contains names.old.items other)) }
+    ensures distinct { IfOk result (λ _. AllPairs (λ a b. a ≢ b) names.old.items → AllPairs (λ a b. a ≢ b) names.new.items) }
+{
+    if !names.contains(&name) {
+        names.push(name)?;
+    }
+    Ok(())
+}
+
+// The floor that a name alone would be.
+fn floor_of(name: &FileName) -> Option<Floor>
+    ensures { IsFloor (name.now ∷ []) result }
+{
+    match *name {
+        FileName::Data {
+            stamp,
+            durable: true,
+            ..
+        } => Some(Floor {
+            stamp,
+            kind: FloorKind::Durable,
+        }),
+        FileName::Data { .. } => None,
+        FileName::Tombstone { stamp } => Some(Floor {
+            stamp,
+            kind: FloorKind::Tombstone,
+        }),
+    }
+}
+
+// The one that is above the other, of two floors that there may be: the floor of the names of both.
+fn greater(a: Option<Floor>, b: Option<Floor>) -> Option<Floor>
+    ensures { (names others : List AFileName) → IsFloor names a → IsFloor others b → IsFloor (names ++ others) result }
+{
+    match (a, b) {
+        (Some(first), Some(second)) => Some(if second.is_above(first) {
+            second
+        } else {
+            first
+        }),
+        (None, _) => b,
+        (Some(_), None) => a,
+    }
+}
+
+// The plain name of an entry whose durable name this is.
+fn plain_of(name: &FileName) -> Option<FileName>
+    ensures { (other : AFileName) → (result ≡ Some other) ↔ Replaces name.now other }
+{
+    match *name {
+        FileName::Data {
+            stamp,
+            index,
+            durable: true,
+        } => Some(FileName::Data {
+            stamp,
+            index,
+            durable: false,
+        }),
+        _ => None,
+    }
+}

@@ -1,0 +1,120 @@
+//! What a directory lists.
+
+ghost use Rattle.std.specs.Prelude.{◌≡◌, ◌≢◌, ◌↔◌, ◌<◌, ℕ, Contains, IfOk, Some};
+ghost use Rattle.std.specs.List.{AllPairs};
+ghost use Rattle.sw_hashpath.specs.declared.file_name.FileName.TheVariants.{Data, Tombstone};
+ghost use Rattle.sw_hashdir.specs.Directory.{HasEntry};
+ghost use Rattle.sw_hashdir.specs.Listing.{IsBefore, IsListingOf};
+ghost use Rattle.sw_hashdir.specs.declared.entry.Entry.{Entry as AEntry};
+
+use crate::directory::HashDir;
+use crate::entry::Entry;
+use std::alloc::Global;
+use std::marker::Model;
+use sw_hashpath::FileName;
+use sw_types::{NoMemory, Stamp};
+
+/// The entries of a folder, ascending by stamp and index, and its tombstones, ascending.
+#[derive(Debug, Drop)]
+pub struct Listing {
+    pub(crate) entries: Vec<Entry>,
+    pub(crate) tombstones: Vec<Stamp>,
+}
+
+impl Model for Listing {
+    ghost use Rattle.sw_hashdir.specs.Listing.{ListingModel};
+
+    ghost Value = { ListingModel };
+
+    ghost view = { λ listing. record { entries = listing.entries.items; tombstones = listing.tombstones.items } };
+}
+
+impl Listing {
+    /// The entries.
+    pub fn entries(&self) -> &[Entry]
+        ensures { result.now ≡ self.now.entries }
+    {
+        self.entries.as_slice()
+    }
+
+    /// The stamps of the tombstones.
+    pub fn tombstones(&self) -> &[Stamp]
+        ensures { result.now ≡ self.now.tombstones }
+    {
+        self.tombstones.as_slice()
+    }
+}
+
+impl HashDir {
+    /// Its entries and tombstones. An entry with both its names is durable.
+    pub fn listing(&self, alloc: Global) -> Result<Listing, NoMemory>
+        ensures { IfOk result (λ listing. IsListingOf self.now listing) }
+    {
+        Ok(Listing {
+            entries: entries_of(alloc, &self.names)?,
+            tombstones: tombstones_of(alloc, &self.names)?,
+        })
+    }
+}
+
+// The entries of different names.
+fn entries_of(alloc: Global, names: &[FileName]) -> Result<Vec<Entry>, NoMemory>
+    requires { AllPairs (λ a b. a ≢ b) names.now }
+    ensures all { IfOk result (λ entries. (entry : AEntry) → Contains entries.items entry ↔ HasEntry names.now entry) }
+    ensures ascend { IfOk result (λ entries. AllPairs IsBefore entries.items) }
+{
+    let mut entries = Vec::new(alloc);
+    for name in names {
+        if let Some(entry) = entry_of(names, name) {
+            entries.push(entry)?;
+        }
+    }
+    entries.sort_unstable_by_key(|entry| (entry.stamp.units(), entry.index));
+    Ok(entries)
+}
+
+// The entry that a name gives. A plain name gives none where its durable one is there.
+fn entry_of(names: &[FileName], name: &FileName) -> Option<Entry>
+    requires { Contains names.now name.now }
+    ensures { (entry : AEntry) → result ≡ Some entry ↔ (HasEntry names.now entry × (Data entry.stamp entry.index entry.durable ≡ name.now)) }
+{
+    match *name {
+        FileName::Data {
+            stamp,
+            index,
+            durable,
+        } => {
+            let marked = FileName::Data {
+                stamp,
+                index,
+                durable: true,
+            };
+            if durable || !names.contains(&marked) {
+                Some(Entry {
+                    stamp,
+                    index,
+                    durable,
+                })
+            } else {
+                None
+            }
+        }
+        FileName::Tombstone { .. } => None,
+    }
+}
+
+// The stamps of the tombstones of different names.
+fn tombstones_of(alloc: Global, names: &[FileName]) -> Result<Vec<Stamp>, NoMemory>
+    requires { AllPairs (λ a b. a ≢ b) names.now }
+    ensures all { IfOk result (λ stamps. (stamp : ℕ) → Contains stamps.items stamp ↔ Contains names.now (Tombstone stamp)) }
+    ensures ascend { IfOk result (λ stamps. AllPairs (λ a b. a < b) stamps.items) }
+{
+    let mut stamps = Vec::new(alloc);
+    for name in names {
+        if let FileName::Tombstone { stamp } = *name {
+            stamps.push(stamp)?;
+        }
+    }
+    stamps.sort_unstable_by_key(|stamp| stamp.units());
+    Ok(stamps)
+}
