@@ -6,7 +6,7 @@ use Rattle.sw_hashpath.specs.FileName.{IsFileName, file_name_text}
 use Rattle.sw_hashpath.specs.declared.file_name.FileName.{FileName}
 use Rattle.sw_hashpath.specs.declared.file_name.FileName.TheVariants.{Data, Tombstone}
 use Rattle.sw_hashdir.specs.Directory.{HasFloorAt, IsAbove, IsDirectory, IsFloor}
-use Rattle.sw_hashdir.specs.Normal.{IsAfter, Replaces}
+use Rattle.sw_hashdir.specs.Obsolete.{IsAfter, Replaces}
 use Rattle.sw_hashdir.specs.declared.floor.Floor.{Floor}
 use Rattle.sw_hashdir.specs.declared.floor.FloorKind.{FloorKind}
 use Rattle.sw_hashdir.specs.declared.floor.FloorKind.TheVariants as kind

@@ -1,3 +1,3 @@
 pub mod Directory
 pub mod Listing
-pub mod Normal
+pub mod Obsolete

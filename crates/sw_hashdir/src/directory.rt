@@ -5,7 +5,7 @@ ghost use Rattle.std.specs.List.{AllPairs};
 ghost use Rattle.sw_hashpath.specs.FileName.{IsFileName};
 ghost use Rattle.sw_hashpath.specs.declared.file_name.FileName.{FileName as AFileName};
 ghost use Rattle.sw_hashdir.specs.Directory.{IsDirectory, IsFloor};
-ghost use Rattle.sw_hashdir.specs.Normal.{IsAfter, Replaces};
+ghost use Rattle.sw_hashdir.specs.Obsolete.{IsAfter, Replaces};
 
 use crate::floor::{Floor, FloorKind};
 use std::alloc::Global;

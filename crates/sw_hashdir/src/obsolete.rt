@@ -6,7 +6,7 @@ ghost use Rattle.sw_hashpath.specs.FileName.{IsFileName, file_name_text};
 ghost use Rattle.sw_hashpath.specs.declared.file_name.FileName.{FileName as AFileName};
 ghost use Rattle.sw_hashdir.specs.Directory.{IsFloor};
 ghost use Rattle.sw_hashdir.specs.Listing.{IsTextBefore};
-ghost use Rattle.sw_hashdir.specs.Normal.{IsBelow, IsObsolete, IsTwin};
+ghost use Rattle.sw_hashdir.specs.Obsolete.{IsBelow, IsObsolete, IsTwin};
 
 use crate::directory::HashDir;
 use crate::floor::Floor;
@@ -19,6 +19,7 @@ impl HashDir {
     pub fn obsolete(&self, alloc: Global, is_primary: bool) -> Result<Vec<FileName>, NoMemory>
         ensures names { IfOk result (λ names. (name : AFileName) → Contains names.items name ↔ IsObsolete is_primary self.now name) }
         ensures ascend { IfOk result (λ names. AllPairs IsTextBefore names.items) }
+        ensures named { IfOk result (λ names. (name : AFileName) → Contains names.items name → IsFileName name) }
     {
         let floor = self.floor();
         let mut names = Vec::new(alloc);

@@ -2,8 +2,9 @@ use Rattle.std.proofs.Common.{◌≡◌, ◌≢◌, ◌↔◌, ◌+◌, List, Ve
 use Rattle.std.specs.List.{AllPairs}
 use Rattle.std.proofs.lemmas.Bool.{false≢true}
 use Rattle.std.proofs.lemmas.Result.{IfOk-weaker}
+use Rattle.sw_hashpath.specs.FileName.{IsFileName}
 use Rattle.sw_hashpath.specs.declared.file_name.FileName.{FileName}
-use Rattle.sw_hashdir.specs.Normal.{IsObsolete}
+use Rattle.sw_hashdir.specs.Obsolete.{IsObsolete}
 use Rattle.sw_hashdir.proofs.Listed.{AreKept, kept_here, kept_past, kept_whole}
 use Rattle.sw_hashdir.proofs.directory.HashDir.obsolete.Goals as goal
 use Rattle.sw_hashdir.proofs.directory.HashDir.obsolete.Goals.{After-deref-2, After-is_obsolete, else-is_obsolete, then-is_obsolete+in_ok-push}
@@ -54,3 +55,8 @@ returns-clause-names c = IfOk-weaker c.in_order.result (λ sorted. (name : FileN
       λ has. (whole.found name ((same name).0 has)).0,
       λ obsolete. (same name).1 (whole.all name obsolete (subst (λ ns. Contains ns name) seen obsolete.0)),
     )) c.in_order.ensures.names
+
+pub returns-clause-named : goal.returns-clause-named
+returns-clause-named c = IfOk-weaker c.in_order.result (λ sorted. (name : FileName) → Contains sorted.items name ↔ Contains c.deref-2.result.now name) (λ sorted. (name : FileName) → Contains sorted.items name → IsFileName name) (λ sorted same name has.
+    let whole = kept (goal.at.returns-clause-named c).After-deref-2 in
+    c.self.invariant.named name (subst (λ ns. Contains ns name) (sym c.self.view_is) (whole.found name ((same name).0 has)).0.0)) c.in_order.ensures.names

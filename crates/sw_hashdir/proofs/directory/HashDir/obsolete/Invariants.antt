@@ -1,5 +1,5 @@
 use Rattle.std.proofs.Common.{take}
-use Rattle.sw_hashdir.specs.Normal.{IsObsolete}
+use Rattle.sw_hashdir.specs.Obsolete.{IsObsolete}
 use Rattle.sw_hashdir.proofs.Listed.{AreKept}
 use Rattle.sw_hashdir.proofs.directory.HashDir.obsolete.Given as goal
 

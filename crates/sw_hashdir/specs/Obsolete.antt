@@ -1,5 +1,5 @@
--- Names that are obsolete, and the normal form of a directory, which has none.
-use Rattle.std.specs.Prelude.{◌≡◌, ◌⊎◌, ◌↔◌, ℕ, ◌<◌, Bool, true, false, List, Contains, Some}
+-- Names that are obsolete, and the names after a change.
+use Rattle.std.specs.Prelude.{◌≡◌, ◌⊎◌, ◌↔◌, ◌<◌, Bool, true, false, List, Contains, Some}
 use Rattle.sw_hashpath.specs.declared.file_name.FileName.{FileName}
 use Rattle.sw_hashpath.specs.declared.file_name.FileName.TheVariants.{Data, Tombstone}
 use Rattle.sw_hashdir.specs.Directory.{IsFloor}
@@ -24,20 +24,12 @@ IsBelowFloor names name = (floor : Floor) × IsFloor names (Some floor) × IsBel
 abbrev pub IsObsolete : Bool → List FileName → FileName → Type 0
 IsObsolete is_primary names name = Contains names name × (IsTwin names name ⊎ ((is_primary ≡ true) × IsBelowFloor names name))
 
--- the names without the obsolete ones
-abbrev pub IsNormal : Bool → List FileName → List FileName → Type 0
-IsNormal is_primary names normal = (name : FileName) → Contains normal name ↔ (Contains names name × (IsObsolete is_primary names name → ⊥))
-
--- a device holds an entry where its normal form has it
-abbrev pub Holds : Bool → List FileName → ℕ → ℕ → Type 0
-Holds is_primary names stamp index =
-    (durable : Bool) × Contains names (Data stamp index durable) × (IsObsolete is_primary names (Data stamp index durable) → ⊥)
-
--- the names once this one was made: a durable name takes the place of its plain one
+-- a durable name takes the place of its plain one
 abbrev pub Replaces : FileName → FileName → Type 0
 Replaces (Data stamp index true) other = other ≡ Data stamp index false
 Replaces (Data stamp index false) other = ⊥
 Replaces (Tombstone stamp) other = ⊥
 
+-- the names once this one was made
 abbrev pub IsAfter : FileName → List FileName → List FileName → Type 0
 IsAfter made names after = (name : FileName) → Contains after name ↔ ((name ≡ made) ⊎ (Contains names name × (Replaces made name → ⊥)))
