@@ -1,0 +1,48 @@
+-- What stands in a folder after changes of names, and what a crash at any moment leaves of them.
+use Rattle.std.specs.Prelude.{◌≡◌, ◌⊎◌, ℕ, ◌≤◌, true, List, [], ◌∷◌, take, Option, Some, None}
+use Rattle.sw_disk.specs.Folder.{Change, Publish, File, Folder, IsImage, Survive, all_changed, files_of}
+use Rattle.sw_disk.specs.Runs.{IfTold, LeavesOnly, Past, Seen}
+use Rattle.sw_disk.specs.State.{State}
+use Rattle.sw_disk.specs.declared.refusal.DiskRefusal.{DiskRefusal}
+use Rattle.sw_disk.specs.declared.refusal.DiskRefusal.TheVariants.{Failed, Full, NoMemory}
+
+-- a new file whose bytes are on the disk
+abbrev pub new_file : (name bytes : List ℕ) → Change
+new_file name bytes = Publish (record { name = name; content = record { bytes = bytes; synced = true } })
+
+-- a crash leaves the folder as it is
+abbrev pub IsSettled : Folder → Type 0
+IsSettled folder = (image : List File) → IsImage folder image → image ≡ files_of folder
+
+-- the files after some first part of the changes
+abbrev pub IsFirstPart : List Change → (files part : List File) → Type 0
+IsFirstPart changes files part = (count : ℕ) × (part ≡ all_changed (take count changes) files)
+
+-- a folder is as before, and no more of it is pending
+pub record IsAsBefore (before after : Folder) : Type 0 where
+  pub files : files_of after ≡ files_of before
+  pub images : (image : List File) → IsImage after image → IsImage before image
+
+-- all the changes were made, or a first part of them where the disk failed; other refusals come before the first
+abbrev pub Stands : Option DiskRefusal → List Change → (before after : Folder) → Type 0
+Stands None changes before after = files_of after ≡ all_changed changes (files_of before)
+Stands (Some Failed) changes before after = IsFirstPart changes (files_of before) (files_of after)
+Stands (Some (Full need free)) changes before after = IsAsBefore before after
+Stands (Some NoMemory) changes before after = IsAsBefore before after
+
+-- The changes of a folder are made, the first of them first.
+pub record Changes {D : Type 0} (seen : D → Seen) (left_since : D → Past) (name : List ℕ) (changes : List Change) (refusal : Option DiskRefusal) (old new : D) : Type 0 where
+  -- what stands
+  pub stands : IfTold (seen old).told (λ before. IfTold (seen new).told (λ after. Stands refusal changes (before.folder name) (after.folder name)))
+  -- a crash at any moment within leaves what it might have left without them, or what survives of some first part of them
+  pub leaves : IfTold (seen old).told (λ before. (t : ℕ) (image : List File) → t ≤ (seen old).moment → left_since new t name image
+      → left_since old t name image ⊎ ((count : ℕ) × Survive (all_changed (take count changes) (files_of (before.folder name))) image))
+  -- so where a crash could only have left the folder as it was, it leaves just the files after some first part of them
+  pub within : IfTold (seen old).told (λ before. IsSettled (before.folder name) →
+      LeavesOnly left_since new (seen old).moment name (IsFirstPart changes (files_of (before.folder name))))
+  -- and once they are made, all of them
+  pub settles : IfTold (seen old).told (λ before. IfTold (seen new).told (λ after. refusal ≡ None → IsSettled (before.folder name) → IsSettled (after.folder name)))
+
+-- no change of names is pending in a folder of a disk that tells
+abbrev pub HasNonePending : Option State → List ℕ → Type 0
+HasNonePending told name = IfTold told (λ state. (state.folder name).pending ≡ [])

@@ -1,0 +1,4 @@
+//! Archives and tombstones in the folders of a disk.
+#![tactic(auto)]
+
+mod calls;
