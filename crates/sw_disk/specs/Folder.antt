@@ -40,9 +40,6 @@ pub record Folder : Type 0 where
   pub stable : List File
   pub pending : List Change
 
-abbrev pub empty_folder : Folder
-empty_folder = record { stable = []; pending = [] }
-
 -- the files that a call sees
 abbrev pub files_of : Folder → List File
 files_of folder = all_changed folder.pending folder.stable

@@ -18,6 +18,10 @@ IsSettled folder = (image : List File) → IsImage folder image → image ≡ fi
 abbrev pub IsFirstPart : List Change → (files part : List File) → Type 0
 IsFirstPart changes files part = (count : ℕ) × (part ≡ all_changed (take count changes) files)
 
+-- what may survive of the files after some first part of the changes
+abbrev pub SurvivesPart : List Change → (files image : List File) → Type 0
+SurvivesPart changes files image = (count : ℕ) × Survive (all_changed (take count changes) files) image
+
 -- a folder is as before, and no more of it is pending
 pub record IsAsBefore (before after : Folder) : Type 0 where
   pub files : files_of after ≡ files_of before
@@ -30,18 +34,22 @@ Stands (Some Failed) changes before after = IsFirstPart changes (files_of before
 Stands (Some (Full need free)) changes before after = IsAsBefore before after
 Stands (Some NoMemory) changes before after = IsAsBefore before after
 
+-- a fact of a folder before and after, where both are told
+abbrev pub IfBothTold : Seen → Seen → List ℕ → (Folder → Folder → Type 0) → Type 0
+IfBothTold old new name P = IfTold old.told (λ before. IfTold new.told (λ after. P (before.folder name) (after.folder name)))
+
 -- The changes of a folder are made, the first of them first.
 pub record Changes {D : Type 0} (seen : D → Seen) (left_since : D → Past) (name : List ℕ) (changes : List Change) (refusal : Option DiskRefusal) (old new : D) : Type 0 where
   -- what stands
-  pub stands : IfTold (seen old).told (λ before. IfTold (seen new).told (λ after. Stands refusal changes (before.folder name) (after.folder name)))
+  pub stands : IfBothTold (seen old) (seen new) name (Stands refusal changes)
   -- a crash at any moment within leaves what it might have left without them, or what survives of some first part of them
   pub leaves : IfTold (seen old).told (λ before. (t : ℕ) (image : List File) → t ≤ (seen old).moment → left_since new t name image
-      → left_since old t name image ⊎ ((count : ℕ) × Survive (all_changed (take count changes) (files_of (before.folder name))) image))
+      → left_since old t name image ⊎ SurvivesPart changes (files_of (before.folder name)) image)
   -- so where a crash could only have left the folder as it was, it leaves just the files after some first part of them
   pub within : IfTold (seen old).told (λ before. IsSettled (before.folder name) →
       LeavesOnly left_since new (seen old).moment name (IsFirstPart changes (files_of (before.folder name))))
   -- and once they are made, all of them
-  pub settles : IfTold (seen old).told (λ before. IfTold (seen new).told (λ after. refusal ≡ None → IsSettled (before.folder name) → IsSettled (after.folder name)))
+  pub settles : IfBothTold (seen old) (seen new) name (λ before after. refusal ≡ None → IsSettled before → IsSettled after)
 
 -- no change of names is pending in a folder of a disk that tells
 abbrev pub HasNonePending : Option State → List ℕ → Type 0

@@ -1,15 +1,19 @@
 -- A folder without the names that are obsolete in it.
-use Rattle.std.specs.Prelude.{◌≡◌, ◌⊎◌, ◌↔◌, ℕ, Bool, List, [], ◌∷◌, Contains}
+use Rattle.std.specs.Prelude.{◌≡◌, ◌⊎◌, ◌↔◌, ℕ, ◌≤◌, Bool, List, [], ◌∷◌, Contains, Option, Some, IsSome}
 use Rattle.std.specs.List.{AllPairs}
 use Rattle.std.specs.Cmp.Lexicographic.{slice_cmp}
 use Rattle.std.specs.Ordering.{nat_cmp}
 use Rattle.std.specs.declared.cmp.Ordering.TheVariants.{Less}
 use Rattle.sw_disk.specs.Answers.{names_of}
-use Rattle.sw_disk.specs.Folder.{File}
+use Rattle.sw_disk.specs.Folder.{File, Folder, files_of}
+use Rattle.sw_disk.specs.Runs.{IfTold, LeavesOnly, Past, Seen}
+use Rattle.sw_disk.specs.State.{State}
 use Rattle.sw_hashpath.specs.FileName.{file_name_text}
 use Rattle.sw_hashpath.specs.declared.file_name.FileName.{FileName}
-use Rattle.sw_hashdir.specs.Directory.{IsDirectory}
+use Rattle.sw_hashdir.specs.Directory.{IsDirectory, IsFloor}
 use Rattle.sw_hashdir.specs.Obsolete.{IsObsolete}
+use Rattle.sw_hashdir.specs.declared.floor.Floor.{Floor}
+use Rattle.sw_diskfile.specs.Changes.{IfBothTold, IsSettled}
 
 -- the text is that of an obsolete name
 abbrev pub IsObsoleteText : Bool → List FileName → List ℕ → Type 0
@@ -37,3 +41,22 @@ pub record IsNormalForm (is_primary : Bool) (files normal : List File) : Type 0 
 -- two folders have one normal form
 abbrev pub HaveOneNormalForm : Bool → (files others : List File) → Type 0
 HaveOneNormalForm is_primary files others = (normal : List File) → IsNormalForm is_primary files normal ↔ IsNormalForm is_primary others normal
+
+-- a fact of each list of the texts that are obsolete in a folder, where it is told; there is one such list
+abbrev pub WithObsolete : Option State → List ℕ → Bool → (List (List ℕ) → Type 0) → Type 0
+WithObsolete told name is_primary P = IfTold told (λ state. (obsolete : List (List ℕ)) → AreObsolete is_primary (names_of (files_of (state.folder name))) obsolete → P obsolete)
+
+-- nothing is obsolete any more, and the floor is the same
+pub record IsTidied (is_primary : Bool) (before after : Folder) : Type 0 where
+  pub normal : IsNormalForm is_primary (files_of before) (files_of after)
+  pub none : (names : List FileName) (name : FileName) → IsDirectory (names_of (files_of after)) names → IsObsolete is_primary names name → ⊥
+  pub floor : (names later : List FileName) (floor : Option Floor) → IsDirectory (names_of (files_of before)) names → IsDirectory (names_of (files_of after)) later → IsFloor names floor → IsFloor later floor
+
+-- A folder keeps its normal form, also where a crash comes at any moment within: the normal form of what it leaves is that of what one
+-- before might have left.
+pub record KeepsNormal {D : Type 0} (seen : D → Seen) (left_since : D → Past) (name : List ℕ) (is_primary : Bool) (old new : D) : Type 0 where
+  pub stands : IfBothTold (seen old) (seen new) name (λ before after. HaveOneNormalForm is_primary (files_of before) (files_of after))
+  pub leaves : IsSome (seen old).told → (t : ℕ) (image : List File) → t ≤ (seen old).moment → left_since new t name image
+      → (before : List File) × left_since old t name before × HaveOneNormalForm is_primary before image
+  pub within : IfTold (seen old).told (λ before. IsSettled (before.folder name) →
+      LeavesOnly left_since new (seen old).moment name (HaveOneNormalForm is_primary (files_of (before.folder name))))

@@ -1,4 +1,16 @@
-//! Archives and tombstones in the folders of a disk.
+//! Archives and tombstones in the folders of a disk: each change leaves before or after, whenever a crash comes.
 #![tactic(auto)]
 
-mod calls;
+mod committing;
+mod dropping;
+mod looking;
+mod purging;
+mod storing;
+mod tidying;
+
+pub use crate::committing::commit;
+pub use crate::dropping::drop_entry;
+pub use crate::looking::{fetch, look};
+pub use crate::purging::{obsolete_texts, purge};
+pub use crate::storing::{bury, store};
+pub use crate::tidying::tidy;

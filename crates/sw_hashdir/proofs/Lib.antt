@@ -1,6 +1,6 @@
-mod Directories
+pub mod Directories
 mod Listed
 mod Listings
-mod Obsoletes
-mod Ordered
-mod Texts
+pub mod Obsoletes
+pub mod Ordered
+pub mod Texts

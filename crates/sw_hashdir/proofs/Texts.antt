@@ -11,6 +11,8 @@ use Rattle.sw_types.specs.Stamp.{greatest_stamp, stamp_text}
 use Rattle.sw_hashpath.specs.FileName.{IsFileName, ending, file_name_text}
 use Rattle.sw_hashpath.specs.declared.file_name.FileName.{FileName}
 use Rattle.sw_hashpath.specs.declared.file_name.FileName.TheVariants.{Data, Tombstone}
+use Rattle.sw_types.proofs.Digits.{length-last_digits}
+use Rattle.sw_types.proofs.DigitsRead.{length-stamp_text}
 
 -- two texts in parts of which the first are as long
 parted : (a b c d : List ℕ) (n : ℕ) → length a ≡ n → length c ≡ n → a ++ b ≡ c ++ d → (a ≡ c) × (b ≡ d)
@@ -24,12 +26,6 @@ one_head a b us vs same =
     let head : a ≡ b = cc in
     let tail : us ≡ vs = cc in
     (head, tail)
-
-length-last_digits : (count n : ℕ) → length (last_digits count n) ≡ count
-unfolding last_digits
-length-last_digits zero n = refl
-length-last_digits (suc count) n =
-    length-append (last_digits count (n / 10)) ((48 + n % 10) ∷ []) ∙ ap (λ k. k + 1) (length-last_digits count (n / 10)) ∙ add-one count
 
 one_number : (count m n : ℕ) → m < 10 ^ count → n < 10 ^ count → last_digits count m ≡ last_digits count n → m ≡ n
 unfolding last_digits
@@ -48,12 +44,6 @@ one_stamp a b first second same =
     let seconds = one_number 10 (a / 100000) (b / 100000) (omega arith) (omega arith) parts.0 in
     let fraction = one_number 5 (a % 100000) (b % 100000) (omega arith) (omega arith) (one_head 46 46 _ _ parts.1).1 in
     omega arith
-
-length-stamp_text : (stamp : ℕ) → length (stamp_text stamp) ≡ 16
-length-stamp_text stamp =
-    let ten = length-last_digits 10 (stamp / 100000) in
-    let five = length-last_digits 5 (stamp % 100000) in
-    length-append (last_digits 10 (stamp / 100000)) (46 ∷ last_digits 5 (stamp % 100000)) ∙ omega (arith, ten, five)
 
 -- digits and what stands behind them, which begins with no digit
 digits_parted : (xs ys : List ℕ) (c d : ℕ) (us vs : List ℕ) → AllDigits 10 xs → AllDigits 10 ys → 10 ≤ digit_value c → 10 ≤ digit_value d → xs ++ c ∷ us ≡ ys ++ d ∷ vs → (xs ≡ ys) × (c ∷ us ≡ d ∷ vs)

@@ -8,21 +8,10 @@ use Rattle.std.proofs.lemmas.List.{append_cancel_left, append_cancel_right, drop
 use Rattle.sw_types.specs.Decimal.{last_digits}
 use Rattle.sw_types.specs.Policy.{greatest_total}
 use Rattle.sw_types.specs.Stamp.{greatest_stamp, stamp_text}
+use Rattle.sw_types.proofs.DigitsRead.{length-stamp_text}
 use Rattle.sw_hashpath.specs.FileName.{IsFileName, ending, file_name_text}
 use Rattle.sw_hashpath.specs.declared.file_name.FileName.{FileName}
 use Rattle.sw_hashpath.specs.declared.file_name.FileName.TheVariants.{Data, Tombstone}
-
-length-last_digits : (count n : ℕ) → length (last_digits count n) ≡ count
-unfolding last_digits
-length-last_digits zero n = refl
-length-last_digits (suc count) n =
-    length-append (last_digits count (n / 10)) ((48 + n % 10) ∷ []) ∙ ap (λ k. k + 1) (length-last_digits count (n / 10)) ∙ add-one count
-
-pub length-stamp_text : (stamp : ℕ) → length (stamp_text stamp) ≡ 16
-length-stamp_text stamp =
-    let ten = length-last_digits 10 (stamp / 100000) in
-    let five = length-last_digits 5 (stamp % 100000) in
-    length-append (last_digits 10 (stamp / 100000)) (46 ∷ last_digits 5 (stamp % 100000)) ∙ omega (arith, ten, five)
 
 -- what marks a durable archive
 abbrev pub mark : Bool → List ℕ

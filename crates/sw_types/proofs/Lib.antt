@@ -1,6 +1,6 @@
 mod Decimals
-mod Digits
-mod DigitsRead
+pub mod Digits
+pub mod DigitsRead
 pub mod HexTexts
 pub mod Names
 mod Pairs

@@ -1,0 +1,58 @@
+-- Which changes the lists of calls make.
+use Rattle.std.proofs.Common.{◌≡◌, inl, inr, ℕ, Bool, cond, List, [], ◌∷◌, ◌++◌, map, Option, refl, sym, ◌∙◌, ap}
+use Rattle.sw_disk.specs.Calls.{Call, ListNames, WriteTmp, SyncTmp, PublishTmp, RenameFile, RemoveFile, SyncDir}
+use Rattle.sw_disk.specs.Folder.{Change, Rename, Remove, Content}
+use Rattle.sw_disk.proofs.Images.{same_name-refl}
+use Rattle.sw_diskfile.specs.Calls.{store_calls, commit_calls, drop_calls, purge_calls, tidy_calls}
+use Rattle.sw_diskfile.specs.Changes.{new_file}
+use Rattle.sw_diskfile.proofs.Changed.{Makes}
+use Rattle.sw_diskfile.proofs.Steps.{changes_by}
+use Rattle.sw_diskfile.proofs.Synced.{AreSyncedChanges}
+
+module _ (folder : List ℕ) where
+  pub makes_store : (name bytes : List ℕ) → Makes folder (store_calls folder name bytes) (new_file name bytes ∷ [])
+  makes_store name bytes = record {
+    made = λ temporary. rw (same_name-refl folder) refl;
+    synced = (refl, tt);
+    ends = inr (WriteTmp bytes ∷ SyncTmp ∷ PublishTmp folder name ∷ [], refl);
+  }
+
+  pub makes_commit : (plain durable : List ℕ) → Makes folder (commit_calls folder plain durable) (Rename plain durable ∷ [])
+  makes_commit plain durable = record {
+    made = λ temporary. rw (same_name-refl folder) refl;
+    synced = (tt, tt);
+    ends = inr (RenameFile folder plain durable ∷ [], refl);
+  }
+
+  pub makes_drop : (name : List ℕ) → Makes folder (drop_calls folder name) (Remove name ∷ [])
+  makes_drop name = record {
+    made = λ temporary. rw (same_name-refl folder) refl;
+    synced = (tt, tt);
+    ends = inr (RemoveFile folder name ∷ [], refl);
+  }
+
+  removals : (names : List (List ℕ)) (temporary : Option Content) → changes_by folder (map (RemoveFile folder) names ++ SyncDir folder ∷ []) temporary ≡ map Remove names
+  removals [] temporary = refl
+  removals (name ∷ names) temporary =
+      ap (λ (b : Bool). cond b (Remove name ∷ []) [] ++ changes_by folder (map (RemoveFile folder) names ++ SyncDir folder ∷ []) temporary) (same_name-refl folder)
+      ∙ ap (λ (cs : List Change). Remove name ∷ cs) (removals names temporary)
+
+  purges : (names : List (List ℕ)) (temporary : Option Content) → changes_by folder (purge_calls folder names) temporary ≡ map Remove names
+  purges [] temporary = refl
+  purges (name ∷ names) temporary = removals (name ∷ names) temporary
+
+  removals_synced : (names : List (List ℕ)) → AreSyncedChanges (map Remove names)
+  removals_synced [] = tt
+  removals_synced (name ∷ names) = (tt, removals_synced names)
+
+  pub makes_purge : (names : List (List ℕ)) → Makes folder (purge_calls folder names) (map Remove names)
+  makes_purge [] = record { made = purges []; synced = tt; ends = inl refl }
+  makes_purge (name ∷ names) = record { made = purges (name ∷ names); synced = removals_synced (name ∷ names); ends = inr (map (RemoveFile folder) (name ∷ names), refl) }
+
+  pub makes_tidy : (names : List (List ℕ)) → Makes folder (tidy_calls folder names) (map Remove names)
+  makes_tidy [] = record { made = purges []; synced = tt; ends = inr (ListNames folder ∷ [], refl) }
+  makes_tidy (name ∷ names) = record {
+    made = purges (name ∷ names);
+    synced = removals_synced (name ∷ names);
+    ends = inr (ListNames folder ∷ SyncDir folder ∷ map (RemoveFile folder) (name ∷ names), refl);
+  }

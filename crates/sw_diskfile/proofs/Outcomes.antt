@@ -1,0 +1,145 @@
+-- What a run of calls that make changes of a folder leaves there.
+use Rattle.std.proofs.Common.{◌≡◌, ◌≢◌, ◌⊎◌, inl, inr, ⊎_elim, ℕ, ◌≤◌, List, [], ◌∷◌, ◌++◌, length, take, Option, Some, None, refl, sym, ◌∙◌, ap, subst, arith}
+use Rattle.std.proofs.lemmas.List.{append-nil, take_all}
+use Rattle.sw_disk.specs.Calls.{Call, SyncDir, Step, calls_in}
+use Rattle.sw_disk.specs.Folder.{Change, File, IsImage, Survive, all_changed, files_of}
+use Rattle.sw_disk.specs.Runs.{IfTold, IsWithin, LeavesOnly, Past, Runs, Seen, Stops, StopsTold}
+use Rattle.sw_disk.specs.State.{State, run, stopped}
+use Rattle.sw_disk.specs.declared.refusal.DiskRefusal.{DiskRefusal}
+use Rattle.sw_disk.specs.declared.refusal.DiskRefusal.TheVariants.{Failed, Full, NoMemory}
+use Rattle.sw_disk.proofs.Images.{image_of_all}
+use Rattle.sw_diskfile.specs.Changes.{Changes, IsAsBefore, IsFirstPart, IsSettled, Stands, SurvivesPart}
+use Rattle.sw_diskfile.proofs.Changed.{Makes, all_files, as_before, done_files, image_stable, part_survives, run_pending}
+use Rattle.sw_diskfile.proofs.Steps.{changes_by, run_images}
+use Rattle.sw_diskfile.proofs.Synced.{AreSynced, all_synced, settled_synced, survive_exactly, take_synced}
+
+-- ---- a run that was refused before its first call was done
+
+pub none_done : (call : Call) (done rest : List Call) → call ∷ [] ≡ done ++ rest → rest ≢ [] → done ≡ []
+none_done call [] rest split some = refl
+none_done call (first ∷ done) rest split some = let none : done ++ rest ≡ [] = cc in absurd (some (after done none))
+  where
+    after : (xs : List Call) → xs ++ rest ≡ [] → rest ≡ []
+    after [] is = is
+    after (x ∷ xs) is = absurd (cc)
+
+abbrev Refused : {D : Type 0} → (D → Seen) → (D → Past) → DiskRefusal → D → D → Type 0
+Refused seen left_since reason old new = (call : Call) × Runs seen left_since (call ∷ []) (Some reason) old new
+
+module _ (folder : List ℕ) where
+  -- the folder is then as it was, and no more is pending
+  before_told : (steps : List Step) (rest : List Call) (reason : DiskRefusal) (a b : Option State) → calls_in steps ≡ [] → StopsTold steps rest (Some reason) a b
+      → IfTold a (λ before. IfTold b (λ after. IsAsBefore (before.folder folder) (after.folder folder)))
+  before_told steps rest reason None b none stops = tt
+  before_told steps rest reason (Some state) b none stops =
+      subst (λ (o : Option State). IfTold o (λ after. IsAsBefore (state.folder folder) (after.folder folder))) (sym stops.1)
+      (subst (λ (s : State). IsAsBefore (state.folder folder) (s.folder folder)) (sym (stops.2.refused reason refl)) (as_before folder steps state (ap (λ (cs : List Call). changes_by folder cs state.temporary) none)))
+
+  pub refused_before : {D : Type 0} (seen : D → Seen) (left_since : D → Past) (reason : DiskRefusal) (a b : D) → Refused seen left_since reason a b
+      → IfTold (seen a).told (λ before. IfTold (seen b).told (λ after. IsAsBefore (before.folder folder) (after.folder folder)))
+  refused_before seen left_since reason a b early =
+      let run = early.1 in
+      before_told run.steps run.rest reason (seen a).told (seen b).told (none_done early.0 (calls_in run.steps) run.rest run.split (run.some reason refl)) run.told
+
+  -- ---- changes
+
+  module _ (calls : List Call) (changes : List Change) (makes : Makes folder calls changes) where
+    all_done : (steps : List Step) (rest : List Call) (a b : Option State) → calls ≡ calls_in steps ++ rest → rest ≡ [] → StopsTold steps rest None a b
+        → IfTold a (λ before. IfTold b (λ after. files_of (after.folder folder) ≡ all_changed changes (files_of (before.folder folder))))
+    all_done steps rest None b split none stops = tt
+    all_done steps rest (Some state) b split none stops =
+        let whole = split ∙ ap (λ (cs : List Call). calls_in steps ++ cs) none ∙ append-nil (calls_in steps) in
+        subst (λ (o : Option State). IfTold o (λ after. files_of (after.folder folder) ≡ all_changed changes (files_of (state.folder folder)))) (sym stops.1)
+        (ap (λ (s : State). files_of (s.folder folder)) (stops.2.whole refl) ∙ all_files folder calls changes makes steps state whole)
+
+    part_done : (steps : List Step) (rest : List Call) (a b : Option State) → calls ≡ calls_in steps ++ rest → StopsTold steps rest (Some Failed) a b
+        → IfTold a (λ before. IfTold b (λ after. IsFirstPart changes (files_of (before.folder folder)) (files_of (after.folder folder))))
+    part_done steps rest None b split stops = tt
+    part_done steps rest (Some state) b split stops =
+        subst (λ (o : Option State). IfTold o (λ after. IsFirstPart changes (files_of (state.folder folder)) (files_of (after.folder folder)))) (sym stops.1)
+        (subst (λ (s : State). IsFirstPart changes (files_of (state.folder folder)) (files_of (s.folder folder))) (sym (stops.2.refused Failed refl)) (done_files folder calls changes makes steps rest state split))
+
+    -- a folder that a crash would have left as it was is so once all was done
+    settled_by : (steps : List Step) (state : State) → calls ≡ calls_in steps → IsSettled (state.folder folder) → IsSettled ((run steps state).folder folder)
+    settled_by steps state whole is_settled = ⊎_elim unchanged made_stable makes.ends
+      where
+        files : files_of ((run steps state).folder folder) ≡ all_changed changes (files_of (state.folder folder))
+        files = all_files folder calls changes makes steps state whole
+
+        unchanged : changes ≡ [] → IsSettled ((run steps state).folder folder)
+        unchanged none = λ image w.
+            let same = as_before folder steps state (ap (λ (cs : List Call). changes_by folder cs state.temporary) (sym whole) ∙ makes.made state.temporary ∙ none) in
+            is_settled image (same.images image w) ∙ sym same.files
+
+        made_stable : (front : List Call) × (calls ≡ front ++ SyncDir folder ∷ []) → IsSettled ((run steps state).folder folder)
+        made_stable last = λ image w.
+            survive_exactly (files_of ((run steps state).folder folder)) image
+            (subst AreSynced (sym files) (all_synced changes (files_of (state.folder folder)) makes.synced (settled_synced (state.folder folder) is_settled)))
+            (image_stable folder ((run steps state).folder folder) image (run_pending folder steps last.0 state (sym whole ∙ last.1)) w)
+
+    settled_after : (steps : List Step) (rest : List Call) (refusal : Option DiskRefusal) (a b : Option State) → calls ≡ calls_in steps ++ rest → (refusal ≡ None → rest ≡ []) → StopsTold steps rest refusal a b
+        → IfTold a (λ before. IfTold b (λ after. refusal ≡ None → IsSettled (before.folder folder) → IsSettled (after.folder folder)))
+    settled_after steps rest refusal None b split all stops = tt
+    settled_after steps rest refusal (Some state) b split all stops =
+        subst (λ (o : Option State). IfTold o (λ after. refusal ≡ None → IsSettled (state.folder folder) → IsSettled (after.folder folder))) (sym stops.1)
+        (λ is is_settled.
+        let whole = split ∙ ap (λ (cs : List Call). calls_in steps ++ cs) (all is) ∙ append-nil (calls_in steps) in
+        subst (λ (s : State). IsSettled (s.folder folder)) (sym (stops.2.whole is)) (settled_by steps state whole is_settled))
+
+    -- ---- what a crash leaves
+
+    module _ (new_past : ℕ → List File → Type 0) (old_past : ℕ → List File → Type 0) (moment : ℕ) where
+      left_told : (steps : List Step) (rest : List Call) (told : Option State) → calls ≡ calls_in steps ++ rest
+          → ((image : List File) → IfTold told (λ s. IsImage (s.folder folder) image → old_past moment image))
+          → ((since later : ℕ) (image : List File) → since ≤ later → old_past later image → old_past since image)
+          → ((t : ℕ) (image : List File) → t ≤ moment → new_past t image → old_past t image ⊎ IfTold told (λ s. IsWithin steps s folder image))
+          → IfTold told (λ before. (t : ℕ) (image : List File) → t ≤ moment → new_past t image → old_past t image ⊎ SurvivesPart changes (files_of (before.folder folder)) image)
+      left_told steps rest None split now earlier else = tt
+      left_told steps rest (Some state) split now earlier else = λ t image le left. ⊎_elim
+          (λ past. inl past)
+          (λ w. ⊎_elim
+          (λ before. inl (earlier t moment image le (now image before)))
+          (λ part. inr (part_survives folder calls changes makes steps rest state.temporary (files_of (state.folder folder)) image split part))
+          (run_images folder steps state w.count image w.left))
+          (else t image le left)
+
+      within_told : (told : Option State) → ((image : List File) → old_past moment image → IfTold told (λ s. IsImage (s.folder folder) image))
+          → IfTold told (λ before. (t : ℕ) (image : List File) → t ≤ moment → new_past t image → old_past t image ⊎ SurvivesPart changes (files_of (before.folder folder)) image)
+          → IfTold told (λ before. IsSettled (before.folder folder) → (image : List File) → new_past moment image → IsFirstPart changes (files_of (before.folder folder)) image)
+      within_told None only leaves = tt
+      within_told (Some state) only leaves = λ is_settled image left. ⊎_elim
+          (λ past. (0, is_settled image (only image past)))
+          (λ part. (
+            part.0,
+            survive_exactly (all_changed (take part.0 changes) (files_of (state.folder folder))) image
+                (all_synced (take part.0 changes) (files_of (state.folder folder)) (take_synced part.0 changes makes.synced) (settled_synced (state.folder folder) is_settled))
+                part.1,
+          ))
+          (leaves moment image (omega arith) left)
+
+-- ---- the whole
+
+module _ {D : Type 0} (seen : D → Seen) (left_since : D → Past) (folder : List ℕ) (calls : List Call) (changes : List Change) (makes : Makes folder calls changes) (a b : D) where
+  stands : (refusal : Option DiskRefusal) → Runs seen left_since calls refusal a b → ((reason : DiskRefusal) → refusal ≡ Some reason → reason ≢ Failed → Refused seen left_since reason a b)
+      → IfTold (seen a).told (λ before. IfTold (seen b).told (λ after. Stands refusal changes (before.folder folder) (after.folder folder)))
+  stands None run early = all_done folder calls changes makes run.steps run.rest (seen a).told (seen b).told run.split (run.all refl) run.told
+  stands (Some Failed) run early = part_done folder calls changes makes run.steps run.rest (seen a).told (seen b).told run.split run.told
+  stands (Some (Full need free)) run early = refused_before folder seen left_since (Full need free) a b (early (Full need free) refl (λ is. cc))
+  stands (Some NoMemory) run early = refused_before folder seen left_since NoMemory a b (early NoMemory refl (λ is. cc))
+
+  pub changes_run : (refusal : Option DiskRefusal)
+      → ((image : List File) → IfTold (seen a).told (λ s. IsImage (s.folder folder) image → left_since a (seen a).moment folder image))
+      → ((image : List File) → left_since a (seen a).moment folder image → IfTold (seen a).told (λ s. IsImage (s.folder folder) image))
+      → ((since later : ℕ) (image : List File) → since ≤ later → left_since a later folder image → left_since a since folder image)
+      → Runs seen left_since calls refusal a b → ((reason : DiskRefusal) → refusal ≡ Some reason → reason ≢ Failed → Refused seen left_since reason a b)
+      → Changes seen left_since folder changes refusal a b
+  changes_run refusal now only earlier run early =
+      let new_past = λ (t : ℕ) (image : List File). left_since b t folder image in
+      let old_past = λ (t : ℕ) (image : List File). left_since a t folder image in
+      let leaves = left_told folder calls changes makes new_past old_past (seen a).moment run.steps run.rest (seen a).told run.split now earlier (λ t image. run.nothing_else t folder image) in
+      record {
+        stands = stands refusal run early;
+        leaves = leaves;
+        within = within_told folder calls changes makes new_past old_past (seen a).moment (seen a).told only leaves;
+        settles = settled_after folder calls changes makes run.steps run.rest refusal (seen a).told (seen b).told run.split run.all run.told;
+      }

@@ -1,0 +1,37 @@
+//! Tidying folders.
+
+ghost use Rattle.std.specs.Prelude.{◌≤◌, ℕ, [], ◌∷◌, List, IfErr, IsErrOf, OnOk, length, map};
+ghost use Rattle.sw_disk.specs.Answers.{IsNotFull};
+ghost use Rattle.sw_disk.specs.Folder.{Remove};
+ghost use Rattle.sw_disk.specs.Runs.{Runs, refusal_of};
+ghost use Rattle.sw_disk.specs.declared.refusal.DiskRefusal.TheVariants.{NoMemory};
+ghost use Rattle.sw_diskfile.specs.Calls.{tidy_calls};
+ghost use Rattle.sw_diskfile.specs.Changes.{Changes, HasNonePending, IfBothTold, IsAsBefore};
+ghost use Rattle.sw_diskfile.specs.Normal.{IsTidied, KeepsNormal, WithObsolete};
+
+use crate::looking::look;
+use crate::purging::{obsolete_texts, purge_by_calls};
+use std::alloc::Global;
+use sw_disk::{Disk, DiskRefusal};
+
+/// Makes the changes of names of a folder stable that are pending, and removes what is obsolete in it at a primary, or at a
+/// handoff. It begins from any folder, also one that a crash or a failure left.
+///
+/// Memory is taken before anything is changed.
+pub fn tidy<D: Disk>(alloc: Global, disk: &mut D, folder: &str, is_primary: bool) -> Result<(), DiskRefusal>
+    requires { length folder.now ≤ 64 }
+    ensures runs { (obsolete : List (List ℕ)) × Runs D.seen D.left_since (tidy_calls folder.now obsolete) (refusal_of result) disk.old disk.new }
+    ensures exact { WithObsolete (D.seen disk.old).told folder.now is_primary (λ obsolete. Runs D.seen D.left_since (tidy_calls folder.now obsolete) (refusal_of result) disk.old disk.new) }
+    ensures changes { WithObsolete (D.seen disk.old).told folder.now is_primary (λ obsolete. Changes D.seen D.left_since folder.now (map Remove obsolete) (refusal_of result) disk.old disk.new) }
+    ensures tidied { OnOk result (IfBothTold (D.seen disk.old) (D.seen disk.new) folder.now (IsTidied is_primary)) }
+    ensures keeps { KeepsNormal D.seen D.left_since folder.now is_primary disk.old disk.new }
+    ensures kept { IsErrOf result NoMemory → IfBothTold (D.seen disk.old) (D.seen disk.new) folder.now IsAsBefore }
+    ensures stable { OnOk result (HasNonePending (D.seen disk.new).told folder.now) }
+    ensures never_full { IfErr result IsNotFull }
+{
+    let dir = look(alloc, disk, folder)?;
+    let obsolete = obsolete_texts(alloc, &dir, is_primary)?;
+    disk.ready(alloc, folder, obsolete.len())?;
+    disk.sync_dir(folder)?;
+    purge_by_calls(disk, folder, is_primary, &obsolete)
+}
