@@ -8,6 +8,10 @@ use Rattle.sw_disk.specs.Runs.{IfTold, Past, Runs, Seen}
 use Rattle.sw_disk.specs.State.{State, synced}
 use Rattle.sw_disk.proofs.Settling.{AreQuiet, carry, files_kept, some_synced, temporary_after}
 
+pub always : (told : Option State) → IfTold told (λ s. ⊤)
+always None = tt
+always (Some state) = tt
+
 module _ {D : Type 0} (seen : D → Seen) (left_since : D → Past) (a b : D) where
   -- facts of a folder's files
   pub quiet_keeps : (calls : List Call) (folder : List ℕ) (P : List File → Type 0) → AreQuiet calls → Runs seen left_since calls None a b
@@ -24,9 +28,5 @@ module _ {D : Type 0} (seen : D → Seen) (left_since : D → Past) (a b : D) wh
 
   pub write_gives : (bytes : List ℕ) → Runs seen left_since (WriteTmp bytes ∷ []) None a b → IfTold (seen b).told (λ s. IsSome s.temporary)
   write_gives bytes runs =
-      carry seen left_since (WriteTmp bytes ∷ []) a b (λ s. ⊤) (λ s. IsSome s.temporary) runs (told (seen a).told)
+      carry seen left_since (WriteTmp bytes ∷ []) a b (λ s. ⊤) (λ s. IsSome s.temporary) runs (always (seen a).told)
       (λ steps state is some. subst IsSome (sym (temporary_after (WriteTmp bytes) (λ before. Some (record { bytes = bytes; synced = false })) (λ s. refl) steps state is)) refl)
-    where
-      told : (o : Option State) → IfTold o (λ s. ⊤)
-      told None = tt
-      told (Some state) = tt

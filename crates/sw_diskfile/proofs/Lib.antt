@@ -1,7 +1,16 @@
+pub mod Begun
 pub mod CallLists
 pub mod Changed
+pub mod Directories
 pub mod FileTexts
+pub mod Keeping
 pub mod Kept
+pub mod Lists
+pub mod Normal
+pub mod Obsoletes
+pub mod ObsoleteTexts
 pub mod Outcomes
+pub mod Removals
+pub mod Removing
 pub mod Steps
 pub mod Synced

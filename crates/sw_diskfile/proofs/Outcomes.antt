@@ -1,14 +1,17 @@
 -- What a run of calls that make changes of a folder leaves there.
-use Rattle.std.proofs.Common.{◌≡◌, ◌≢◌, ◌⊎◌, inl, inr, ⊎_elim, ℕ, ◌≤◌, List, [], ◌∷◌, ◌++◌, length, take, Option, Some, None, refl, sym, ◌∙◌, ap, subst, arith}
-use Rattle.std.proofs.lemmas.List.{append-nil, take_all}
+use Rattle.std.proofs.Common.{◌≡◌, ◌≢◌, ◌⊎◌, inl, inr, ⊎_elim, ℕ, ◌≤◌, List, [], ◌∷◌, ◌++◌, length, take, Option, Some, None, Result, Ok, Err, IfErr, IsErrOf, OnOk, refl, sym, ◌∙◌, ap, subst, arith}
+use Rattle.std.specs.Prelude.{⊤}
+use Rattle.std.proofs.lemmas.List.{append-nil}
+use Rattle.sw_disk.specs.Answers.{IsNotFull}
 use Rattle.sw_disk.specs.Calls.{Call, SyncDir, Step, calls_in}
-use Rattle.sw_disk.specs.Folder.{Change, File, IsImage, Survive, all_changed, files_of}
-use Rattle.sw_disk.specs.Runs.{IfTold, IsWithin, LeavesOnly, Past, Runs, Seen, Stops, StopsTold}
+use Rattle.sw_disk.specs.Folder.{Change, File, Folder, IsImage, Survive, all_changed, files_of}
+use Rattle.sw_disk.specs.Runs.{IfTold, IsWithin, Past, Runs, Seen, StopsTold, refusal_of}
 use Rattle.sw_disk.specs.State.{State, run, stopped}
 use Rattle.sw_disk.specs.declared.refusal.DiskRefusal.{DiskRefusal}
 use Rattle.sw_disk.specs.declared.refusal.DiskRefusal.TheVariants.{Failed, Full, NoMemory}
-use Rattle.sw_disk.proofs.Images.{image_of_all}
-use Rattle.sw_diskfile.specs.Changes.{Changes, IsAsBefore, IsFirstPart, IsSettled, Stands, SurvivesPart}
+use Rattle.sw_disk.proofs.Settling.{carry}
+use Rattle.sw_diskfile.proofs.Kept.{always}
+use Rattle.sw_diskfile.specs.Changes.{Changes, HasNonePending, IfBothTold, IsAsBefore, IsFirstPart, IsSettled, Stands, SurvivesPart}
 use Rattle.sw_diskfile.proofs.Changed.{Makes, all_files, as_before, done_files, image_stable, part_survives, run_pending}
 use Rattle.sw_diskfile.proofs.Steps.{changes_by, run_images}
 use Rattle.sw_diskfile.proofs.Synced.{AreSynced, all_synced, settled_synced, survive_exactly, take_synced}
@@ -143,3 +146,46 @@ module _ {D : Type 0} (seen : D → Seen) (left_since : D → Past) (folder : Li
         within = within_told folder calls changes makes new_past old_past (seen a).moment (seen a).told only leaves;
         settles = settled_after folder calls changes makes run.steps run.rest refusal (seen a).told (seen b).told run.split run.all run.told;
       }
+
+-- ---- where all was done
+
+pub on_ok : (result : Result (Unit {0}) DiskRefusal) (P : Type 0) → (refusal_of result ≡ None → P) → OnOk result P
+on_ok (Ok unit) P holds = holds refl
+on_ok (Err reason) P holds = tt
+
+-- it is not full where no numbers of a full disk can be told
+pub not_full : (result : Result (Unit {0}) DiskRefusal) → ((need free : ℕ) → IsErrOf result (Full need free) → ⊥) → IfErr result IsNotFull
+not_full (Ok unit) none = tt
+not_full (Err Failed) none = tt
+not_full (Err NoMemory) none = tt
+not_full (Err (Full need free)) none = none need free refl
+
+-- where it only fails
+pub only_fails : (result : Result (Unit {0}) DiskRefusal) (reason : DiskRefusal) → IfErr result (λ refusal. refusal ≡ Failed) → refusal_of result ≡ Some reason → reason ≡ Failed
+only_fails (Ok unit) reason cause is = absurd (cc)
+only_fails (Err refusal) reason cause is = cc
+
+-- what follows of a folder before and after
+pub both_map : (old new : Seen) (folder : List ℕ) (Has : Folder → Type 0) (P Q : Folder → Folder → Type 0) → ((before after : Folder) → Has before → P before after → Q before after)
+    → IfTold old.told (λ before. Has (before.folder folder)) → IfBothTold old new folder P → IfBothTold old new folder Q
+both_map old new folder Has P Q more there has = map_told old.told new.told there has
+  where
+    map_told : (a b : Option State) → IfTold a (λ before. Has (before.folder folder)) → IfTold a (λ before. IfTold b (λ after. P (before.folder folder) (after.folder folder)))
+        → IfTold a (λ before. IfTold b (λ after. Q (before.folder folder) (after.folder folder)))
+    map_told None b there has = tt
+    map_told (Some s) None there has = tt
+    map_told (Some s) (Some t) there has = more (s.folder folder) (t.folder folder) there has
+
+module _ {D : Type 0} (seen : D → Seen) (left_since : D → Past) (folder : List ℕ) (a b : D) where
+  -- its last call made the folder stable
+  pub stable_run : (front : List Call) → Runs seen left_since (front ++ SyncDir folder ∷ []) None a b → HasNonePending (seen b).told folder
+  stable_run front runs =
+      carry seen left_since (front ++ SyncDir folder ∷ []) a b (λ s. ⊤) (λ s. (s.folder folder).pending ≡ []) runs (always (seen a).told)
+      (λ steps state is _. run_pending folder steps front state is)
+
+  -- all the changes stand
+  pub all_stand : (changes : List Change) (refusal : Option DiskRefusal) (Has : Folder → Type 0) (Q : Folder → Folder → Type 0) → refusal ≡ None → Changes seen left_since folder changes refusal a b
+      → IfTold (seen a).told (λ before. Has (before.folder folder)) → ((before after : Folder) → Has before → files_of after ≡ all_changed changes (files_of before) → Q before after) → IfBothTold (seen a) (seen b) folder Q
+  all_stand changes refusal Has Q none done there more =
+      both_map (seen a) (seen b) folder Has (Stands None changes) Q more there
+      (subst (λ (r : Option DiskRefusal). IfBothTold (seen a) (seen b) folder (Stands r changes)) none done.stands)

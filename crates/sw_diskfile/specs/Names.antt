@@ -18,9 +18,13 @@ IsDirectoryOf folder names = IsDirectory (names_of (files_of folder)) names
 abbrev pub MakesName : FileName → (before after : Folder) → Type 0
 MakesName made before after = (names later : List FileName) → IsDirectoryOf before names → IsAfter made names later → IsDirectoryOf after later
 
+-- these of the names that are not that one
+abbrev pub IsWithout : FileName → (names rest : List FileName) → Type 0
+IsWithout gone names rest = (name : FileName) → Contains rest name ↔ (Contains names name × (name ≢ gone))
+
 -- the directory becomes that without this name
 abbrev pub DropsName : FileName → (before after : Folder) → Type 0
-DropsName dropped before after = (names later : List FileName) → IsDirectoryOf before names → ((name : FileName) → Contains later name ↔ (Contains names name × (name ≢ dropped))) → IsDirectoryOf after later
+DropsName dropped before after = (names later : List FileName) → IsDirectoryOf before names → IsWithout dropped names later → IsDirectoryOf after later
 
 -- the calls run, and then memory may be wanted
 abbrev pub RunsUnlessMemory : {D : Type 0} → (D → Seen) → (D → Past) → List Call → Option DiskRefusal → D → D → Type 0

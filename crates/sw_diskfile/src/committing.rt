@@ -1,6 +1,6 @@
 //! Making archives durable.
 
-ghost use Rattle.std.specs.Prelude.{◌≡◌, ◌≢◌, ◌<◌, ◌≤◌, [], ◌∷◌, IfErr, OnOk, Some, length};
+ghost use Rattle.std.specs.Prelude.{◌≡◌, ◌≢◌, ◌<◌, ◌≤◌, true, false, [], ◌∷◌, IfErr, OnOk, Some, length};
 ghost use Rattle.sw_types.specs.Policy.{greatest_total};
 ghost use Rattle.sw_disk.specs.Answers.{HasFile, IsNotFull, LacksFile};
 ghost use Rattle.sw_disk.specs.Calls.{RenameFile};

@@ -1,6 +1,6 @@
 //! Storing archives and tombstones.
 
-ghost use Rattle.std.specs.Prelude.{◌≡◌, ◌≢◌, ◌<◌, ◌≤◌, ℕ, [], ◌∷◌, IfErr, IsErrOf, IsSome, OnOk, Some, length};
+ghost use Rattle.std.specs.Prelude.{◌≡◌, ◌≢◌, ◌<◌, ◌≤◌, ℕ, false, [], ◌∷◌, IfErr, IsErrOf, IsSome, OnOk, Some, length};
 ghost use Rattle.sw_types.specs.Policy.{greatest_total};
 ghost use Rattle.sw_disk.specs.Answers.{IsFull, IsNotFull, LacksFile};
 ghost use Rattle.sw_disk.specs.Calls.{PublishTmp, SyncDir, SyncTmp, WriteTmp};

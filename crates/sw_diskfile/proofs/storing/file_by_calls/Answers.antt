@@ -8,8 +8,9 @@ use Rattle.sw_disk.specs.State.{State}
 use Rattle.sw_disk.specs.declared.refusal.DiskRefusal.{DiskRefusal}
 use Rattle.sw_disk.specs.declared.refusal.DiskRefusal.TheVariants.{Failed, Full, NoMemory}
 use Rattle.sw_hashpath.specs.FileName.{file_name_text}
-use Rattle.sw_disk.proofs.Chains.{not_begun, runs_after, runs_more, runs_stop}
+use Rattle.sw_disk.proofs.Chains.{runs_after, runs_more, runs_stop}
 use Rattle.sw_diskfile.specs.Calls.{store_calls}
+use Rattle.sw_diskfile.proofs.Begun.{refused_early, unbegun}
 use Rattle.sw_diskfile.proofs.FileTexts.{short_text}
 use Rattle.sw_diskfile.proofs.Kept.{quiet_keeps, write_gives}
 use Rattle.sw_diskfile.proofs.storing.file_by_calls.Goals as goal
@@ -17,23 +18,23 @@ use Rattle.sw_diskfile.proofs.storing.file_by_calls.Goals as goal
 pub returns-in_err-text-clause-runs : goal.returns-in_err-text-clause-runs
 returns-in_err-text-clause-runs g c =
     let p = err_from_is_err_and c.from_residual.result c.from_residual.ensures.1 in
-    rw (p.1, p.2) (not_begun g.D.Disk.seen g.D.Disk.left_since (store_calls c.args.folder.now (file_name_text c.args.name.now) c.args.bytes.now) NoMemory c.args.disk.now (λ is. cc) (λ is. cc))
+    let folder = c.args.folder.now in
+    rw (p.1, p.2) (unbegun g.D.Disk.seen g.D.Disk.left_since (WriteTmp c.args.bytes.now) (SyncTmp ∷ PublishTmp folder (file_name_text c.args.name.now) ∷ SyncDir folder ∷ []) NoMemory c.args.disk.now (λ is. cc))
 
 pub returns-in_err-text-clause-early : goal.returns-in_err-text-clause-early
-returns-in_err-text-clause-early g c = λ reason is not_failed. not_begun g.D.Disk.seen g.D.Disk.left_since (WriteTmp c.args.bytes.now ∷ []) reason c.args.disk.now not_failed (λ is. cc)
+returns-in_err-text-clause-early g c = λ reason is other. unbegun g.D.Disk.seen g.D.Disk.left_since (WriteTmp c.args.bytes.now) [] reason c.args.disk.now other
 
 pub returns-in_err-ready-clause-runs : goal.returns-in_err-ready-clause-runs
 returns-in_err-ready-clause-runs g c =
     let p = err_from_is_err_and c.from_residual-in_err-ready.result c.from_residual-in_err-ready.ensures.1 in
-    let calls = store_calls c.args.folder.now (file_name_text c.args.name.now) c.args.bytes.now in
+    let folder = c.args.folder.now in
     rw (p.1, p.2, c.in_err-ready.ensures.cause)
-    (runs_after g.D.Disk.seen g.D.Disk.left_since calls (Some NoMemory) c.args.disk.now c.ready.new.self c.ready.new.self c.in_err-ready.ensures.untouched
-    (not_begun g.D.Disk.seen g.D.Disk.left_since calls NoMemory c.ready.new.self (λ is. cc) (λ is. cc)))
+    (refused_early g.D.Disk.seen g.D.Disk.left_since (WriteTmp c.args.bytes.now) (SyncTmp ∷ PublishTmp folder (file_name_text c.args.name.now) ∷ SyncDir folder ∷ []) NoMemory c.ready.new.self (λ is. cc) c.args.disk.now
+    c.in_err-ready.ensures.untouched)
 
 pub returns-in_err-ready-clause-early : goal.returns-in_err-ready-clause-early
-returns-in_err-ready-clause-early g c = λ reason is not_failed.
-    runs_after g.D.Disk.seen g.D.Disk.left_since (WriteTmp c.args.bytes.now ∷ []) (Some reason) c.args.disk.now c.ready.new.self c.ready.new.self c.in_err-ready.ensures.untouched
-    (not_begun g.D.Disk.seen g.D.Disk.left_since (WriteTmp c.args.bytes.now ∷ []) reason c.ready.new.self not_failed (λ is. cc))
+returns-in_err-ready-clause-early g c = λ reason is other.
+    refused_early g.D.Disk.seen g.D.Disk.left_since (WriteTmp c.args.bytes.now) [] reason c.ready.new.self other c.args.disk.now c.in_err-ready.ensures.untouched
 
 pub returns-in_err-write_tmp-clause-runs : goal.returns-in_err-write_tmp-clause-runs
 returns-in_err-write_tmp-clause-runs g c =
