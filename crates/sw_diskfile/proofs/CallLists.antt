@@ -49,10 +49,13 @@ module _ (folder : List ℕ) where
   makes_purge [] = record { made = purges []; synced = tt; ends = inl refl }
   makes_purge (name ∷ names) = record { made = purges (name ∷ names); synced = removals_synced (name ∷ names); ends = inr (map (RemoveFile folder) (name ∷ names), refl) }
 
+  pub tidy_ends : (names : List (List ℕ)) → (front : List Call) × (tidy_calls folder names ≡ front ++ SyncDir folder ∷ [])
+  tidy_ends [] = (ListNames folder ∷ [], refl)
+  tidy_ends (name ∷ names) = (ListNames folder ∷ SyncDir folder ∷ map (RemoveFile folder) (name ∷ names), refl)
+
   pub makes_tidy : (names : List (List ℕ)) → Makes folder (tidy_calls folder names) (map Remove names)
-  makes_tidy [] = record { made = purges []; synced = tt; ends = inr (ListNames folder ∷ [], refl) }
-  makes_tidy (name ∷ names) = record {
-    made = purges (name ∷ names);
-    synced = removals_synced (name ∷ names);
-    ends = inr (ListNames folder ∷ SyncDir folder ∷ map (RemoveFile folder) (name ∷ names), refl);
-  }
+  makes_tidy names = record { made = purges names; synced = removals_synced names; ends = inr (tidy_ends names) }
+
+  -- none before the first removal
+  pub makes_none : Makes folder (ListNames folder ∷ SyncDir folder ∷ []) []
+  makes_none = record { made = λ temporary. refl; synced = tt; ends = inl refl }

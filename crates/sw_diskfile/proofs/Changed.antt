@@ -40,6 +40,16 @@ module _ (folder : List ℕ) where
       ap (λ (cs : List Change). first ++ cs) (changes_by-append xs ys (temporary_by x temporary))
       ∙ sym (append_assoc first (changes_by folder xs (temporary_by x temporary)) (changes_by folder ys (temporary_after xs (temporary_by x temporary))))
 
+  -- steps of calls that make none make none
+  pub quiet_part : (calls : List Call) (steps : List Step) (rest : List Call) (temporary : Option Content) → calls ≡ calls_in steps ++ rest → changes_by folder calls temporary ≡ [] → changes_by folder (calls_in steps) temporary ≡ []
+  quiet_part calls steps rest temporary split none =
+      nothing (changes_by folder (calls_in steps) temporary) (changes_by folder rest (temporary_after (calls_in steps) temporary))
+      (sym (changes_by-append (calls_in steps) rest temporary) ∙ ap (λ (cs : List Call). changes_by folder cs temporary) (sym split) ∙ none)
+    where
+      nothing : (xs ys : List Change) → xs ++ ys ≡ [] → xs ≡ []
+      nothing [] ys is = refl
+      nothing (x ∷ xs) ys is = absurd (cc)
+
   -- ---- folders made stable
 
   none_pending : (steps : List Step) (state : State) → calls_in steps ≡ [] → (state.folder folder).pending ≡ [] → ((run steps state).folder folder).pending ≡ []

@@ -5,6 +5,7 @@ pub mod Directories
 pub mod FileTexts
 pub mod Keeping
 pub mod Kept
+pub mod Listings
 pub mod Lists
 pub mod Normal
 pub mod Obsoletes
@@ -14,3 +15,4 @@ pub mod Removals
 pub mod Removing
 pub mod Steps
 pub mod Synced
+pub mod Tidied

@@ -4,15 +4,16 @@ use Rattle.std.specs.Prelude.{⊤}
 use Rattle.std.proofs.lemmas.List.{append-nil}
 use Rattle.sw_disk.specs.Answers.{IsNotFull}
 use Rattle.sw_disk.specs.Calls.{Call, SyncDir, Step, calls_in}
-use Rattle.sw_disk.specs.Folder.{Change, File, Folder, IsImage, Survive, all_changed, files_of}
+use Rattle.sw_disk.specs.Folder.{Change, Content, File, Folder, IsImage, Survive, all_changed, files_of}
 use Rattle.sw_disk.specs.Runs.{IfTold, IsWithin, Past, Runs, Seen, StopsTold, refusal_of}
 use Rattle.sw_disk.specs.State.{State, run, stopped}
 use Rattle.sw_disk.specs.declared.refusal.DiskRefusal.{DiskRefusal}
 use Rattle.sw_disk.specs.declared.refusal.DiskRefusal.TheVariants.{Failed, Full, NoMemory}
+use Rattle.sw_disk.proofs.Chains.{steps_of}
 use Rattle.sw_disk.proofs.Settling.{carry}
 use Rattle.sw_diskfile.proofs.Kept.{always}
 use Rattle.sw_diskfile.specs.Changes.{Changes, HasNonePending, IfBothTold, IsAsBefore, IsFirstPart, IsSettled, Stands, SurvivesPart}
-use Rattle.sw_diskfile.proofs.Changed.{Makes, all_files, as_before, done_files, image_stable, part_survives, run_pending}
+use Rattle.sw_diskfile.proofs.Changed.{Makes, all_files, as_before, done_files, image_stable, part_survives, quiet_part, run_pending}
 use Rattle.sw_diskfile.proofs.Steps.{changes_by, run_images}
 use Rattle.sw_diskfile.proofs.Synced.{AreSynced, all_synced, settled_synced, survive_exactly, take_synced}
 
@@ -26,23 +27,25 @@ none_done call (first ∷ done) rest split some = let none : done ++ rest ≡ []
     after [] is = is
     after (x ∷ xs) is = absurd (cc)
 
-abbrev Refused : {D : Type 0} → (D → Seen) → (D → Past) → DiskRefusal → D → D → Type 0
-Refused seen left_since reason old new = (call : Call) × Runs seen left_since (call ∷ []) (Some reason) old new
-
 module _ (folder : List ℕ) where
-  -- the folder is then as it was, and no more is pending
-  before_told : (steps : List Step) (rest : List Call) (reason : DiskRefusal) (a b : Option State) → calls_in steps ≡ [] → StopsTold steps rest (Some reason) a b
+  -- the folder is as it was, and no more is pending
+  before_told : (steps : List Step) (rest : List Call) (reason : DiskRefusal) (a b : Option State) → ((temporary : Option Content) → changes_by folder (calls_in steps) temporary ≡ []) → StopsTold steps rest (Some reason) a b
       → IfTold a (λ before. IfTold b (λ after. IsAsBefore (before.folder folder) (after.folder folder)))
   before_told steps rest reason None b none stops = tt
   before_told steps rest reason (Some state) b none stops =
       subst (λ (o : Option State). IfTold o (λ after. IsAsBefore (state.folder folder) (after.folder folder))) (sym stops.1)
-      (subst (λ (s : State). IsAsBefore (state.folder folder) (s.folder folder)) (sym (stops.2.refused reason refl)) (as_before folder steps state (ap (λ (cs : List Call). changes_by folder cs state.temporary) none)))
+      (subst (λ (s : State). IsAsBefore (state.folder folder) (s.folder folder)) (sym (stops.2.refused reason refl)) (as_before folder steps state (none state.temporary)))
 
-  pub refused_before : {D : Type 0} (seen : D → Seen) (left_since : D → Past) (reason : DiskRefusal) (a b : D) → Refused seen left_since reason a b
-      → IfTold (seen a).told (λ before. IfTold (seen b).told (λ after. IsAsBefore (before.folder folder) (after.folder folder)))
-  refused_before seen left_since reason a b early =
-      let run = early.1 in
-      before_told run.steps run.rest reason (seen a).told (seen b).told (none_done early.0 (calls_in run.steps) run.rest run.split (run.some reason refl)) run.told
+  -- after a run of calls that make no change of it
+  pub quiet_before : {D : Type 0} (seen : D → Seen) (left_since : D → Past) (calls : List Call) (reason : DiskRefusal) (a b : D) → ((temporary : Option Content) → changes_by folder calls temporary ≡ []) → Runs seen left_since calls (Some reason) a b
+      → IfBothTold (seen a) (seen b) folder IsAsBefore
+  quiet_before seen left_since calls reason a b none run =
+      before_told run.steps run.rest reason (seen a).told (seen b).told (λ temporary. quiet_part folder calls run.steps run.rest temporary run.split (none temporary)) run.told
+
+  -- and after one that was refused before its first call was done
+  pub refused_before : {D : Type 0} (seen : D → Seen) (left_since : D → Past) (call : Call) (reason : DiskRefusal) (a b : D) → Runs seen left_since (call ∷ []) (Some reason) a b → IfBothTold (seen a) (seen b) folder IsAsBefore
+  refused_before seen left_since call reason a b run =
+      before_told run.steps run.rest reason (seen a).told (seen b).told (λ temporary. ap (λ (cs : List Call). changes_by folder cs temporary) (none_done call (calls_in run.steps) run.rest run.split (run.some reason refl))) run.told
 
   -- ---- changes
 
@@ -123,18 +126,18 @@ module _ (folder : List ℕ) where
 -- ---- the whole
 
 module _ {D : Type 0} (seen : D → Seen) (left_since : D → Past) (folder : List ℕ) (calls : List Call) (changes : List Change) (makes : Makes folder calls changes) (a b : D) where
-  stands : (refusal : Option DiskRefusal) → Runs seen left_since calls refusal a b → ((reason : DiskRefusal) → refusal ≡ Some reason → reason ≢ Failed → Refused seen left_since reason a b)
+  stands : (refusal : Option DiskRefusal) → Runs seen left_since calls refusal a b → ((reason : DiskRefusal) → refusal ≡ Some reason → reason ≢ Failed → IfBothTold (seen a) (seen b) folder IsAsBefore)
       → IfTold (seen a).told (λ before. IfTold (seen b).told (λ after. Stands refusal changes (before.folder folder) (after.folder folder)))
   stands None run early = all_done folder calls changes makes run.steps run.rest (seen a).told (seen b).told run.split (run.all refl) run.told
   stands (Some Failed) run early = part_done folder calls changes makes run.steps run.rest (seen a).told (seen b).told run.split run.told
-  stands (Some (Full need free)) run early = refused_before folder seen left_since (Full need free) a b (early (Full need free) refl (λ is. cc))
-  stands (Some NoMemory) run early = refused_before folder seen left_since NoMemory a b (early NoMemory refl (λ is. cc))
+  stands (Some (Full need free)) run early = early (Full need free) refl (λ is. cc)
+  stands (Some NoMemory) run early = early NoMemory refl (λ is. cc)
 
   pub changes_run : (refusal : Option DiskRefusal)
       → ((image : List File) → IfTold (seen a).told (λ s. IsImage (s.folder folder) image → left_since a (seen a).moment folder image))
       → ((image : List File) → left_since a (seen a).moment folder image → IfTold (seen a).told (λ s. IsImage (s.folder folder) image))
       → ((since later : ℕ) (image : List File) → since ≤ later → left_since a later folder image → left_since a since folder image)
-      → Runs seen left_since calls refusal a b → ((reason : DiskRefusal) → refusal ≡ Some reason → reason ≢ Failed → Refused seen left_since reason a b)
+      → Runs seen left_since calls refusal a b → ((reason : DiskRefusal) → refusal ≡ Some reason → reason ≢ Failed → IfBothTold (seen a) (seen b) folder IsAsBefore)
       → Changes seen left_since folder changes refusal a b
   changes_run refusal now only earlier run early =
       let new_past = λ (t : ℕ) (image : List File). left_since b t folder image in
@@ -159,6 +162,9 @@ not_full (Ok unit) none = tt
 not_full (Err Failed) none = tt
 not_full (Err NoMemory) none = tt
 not_full (Err (Full need free)) none = none need free refl
+
+pub err_refusal : (result : Result (Unit {0}) DiskRefusal) (reason : DiskRefusal) → IsErrOf result reason → refusal_of result ≡ Some reason
+err_refusal result reason is = ap refusal_of is
 
 -- where it only fails
 pub only_fails : (result : Result (Unit {0}) DiskRefusal) (reason : DiskRefusal) → IfErr result (λ refusal. refusal ≡ Failed) → refusal_of result ≡ Some reason → reason ≡ Failed
@@ -189,3 +195,21 @@ module _ {D : Type 0} (seen : D → Seen) (left_since : D → Past) (folder : Li
   all_stand changes refusal Has Q none done there more =
       both_map (seen a) (seen b) folder Has (Stands None changes) Q more there
       (subst (λ (r : Option DiskRefusal). IfBothTold (seen a) (seen b) folder (Stands r changes)) none done.stands)
+
+-- ---- calls that change no name
+
+module _ (folder : List ℕ) where
+  quiet_told : (steps : List Step) (rest : List Call) (a b : Option State) → ((temporary : Option Content) → changes_by folder (calls_in steps) temporary ≡ []) → StopsTold steps rest None a b
+      → IfTold a (λ before. IfTold b (λ after. IsAsBefore (before.folder folder) (after.folder folder)))
+  quiet_told steps rest None b none stops = tt
+  quiet_told steps rest (Some state) b none stops =
+      subst (λ (o : Option State). IfTold o (λ after. IsAsBefore (state.folder folder) (after.folder folder))) (sym stops.1)
+      (subst (λ (s : State). IsAsBefore (state.folder folder) (s.folder folder)) (sym (stops.2.whole refl)) (as_before folder steps state (none state.temporary)))
+
+  -- one call, done or refused
+  pub quiet_call : {D : Type 0} (seen : D → Seen) (left_since : D → Past) (call : Call) (a b : D) → ((temporary : Option Content) → changes_by folder (call ∷ []) temporary ≡ [])
+      → (refusal : Option DiskRefusal) → Runs seen left_since (call ∷ []) refusal a b → IfBothTold (seen a) (seen b) folder IsAsBefore
+  quiet_call seen left_since call a b none None run =
+      let all = steps_of seen left_since (call ∷ []) a b run in
+      quiet_told run.steps run.rest (seen a).told (seen b).told (λ temporary. ap (λ (cs : List Call). changes_by folder cs temporary) (sym all) ∙ none temporary) run.told
+  quiet_call seen left_since call a b none (Some reason) run = refused_before folder seen left_since call reason a b run

@@ -6,13 +6,17 @@ use Rattle.std.specs.Ordering.{nat_cmp}
 use Rattle.std.specs.declared.cmp.Ordering.TheVariants.{Less}
 use Rattle.sw_disk.specs.Answers.{names_of}
 use Rattle.sw_disk.specs.Folder.{File, Folder, files_of}
-use Rattle.sw_disk.specs.Runs.{IfTold, LeavesOnly, Past, Seen}
+use Rattle.sw_disk.specs.Calls.{ListNames, SyncDir}
+use Rattle.sw_disk.specs.Runs.{IfTold, LeavesOnly, Past, Runs, Seen}
 use Rattle.sw_disk.specs.State.{State}
+use Rattle.sw_disk.specs.declared.refusal.DiskRefusal.{DiskRefusal}
+use Rattle.sw_disk.specs.declared.refusal.DiskRefusal.TheVariants.{Failed}
 use Rattle.sw_hashpath.specs.FileName.{file_name_text}
 use Rattle.sw_hashpath.specs.declared.file_name.FileName.{FileName}
 use Rattle.sw_hashdir.specs.Directory.{IsDirectory, IsFloor}
 use Rattle.sw_hashdir.specs.Obsolete.{IsObsolete}
 use Rattle.sw_hashdir.specs.declared.floor.Floor.{Floor}
+use Rattle.sw_diskfile.specs.Calls.{tidy_calls}
 use Rattle.sw_diskfile.specs.Changes.{IfBothTold, IsSettled}
 
 -- the text is that of an obsolete name
@@ -60,3 +64,10 @@ pub record KeepsNormal {D : Type 0} (seen : D → Seen) (left_since : D → Past
       → (before : List File) × left_since old t name before × HaveOneNormalForm is_primary before image
   pub within : IfTold (seen old).told (λ before. IsSettled (before.folder name) →
       LeavesOnly left_since new (seen old).moment name (HaveOneNormalForm is_primary (files_of (before.folder name))))
+
+-- tidying, call by call: it is refused before the first removal, or the obsolete names are removed, and then only failures stop it
+abbrev pub Tidies : {D : Type 0} → (D → Seen) → (D → Past) → List ℕ → Bool → Option DiskRefusal → D → D → Type 0
+Tidies seen left_since name is_primary refusal old new =
+    ((reason : DiskRefusal) × (refusal ≡ Some reason) × Runs seen left_since (ListNames name ∷ SyncDir name ∷ []) refusal old new)
+    ⊎ ((obsolete : List (List ℕ)) × IfTold (seen old).told (λ state. AreObsolete is_primary (names_of (files_of (state.folder name))) obsolete)
+    × ((reason : DiskRefusal) → refusal ≡ Some reason → reason ≡ Failed) × Runs seen left_since (tidy_calls name obsolete) refusal old new)

@@ -1,13 +1,15 @@
 //! Tidying folders.
 
-ghost use Rattle.std.specs.Prelude.{◌≤◌, ℕ, [], ◌∷◌, List, IfErr, IsErrOf, OnOk, length, map};
-ghost use Rattle.sw_disk.specs.Answers.{IsNotFull};
-ghost use Rattle.sw_disk.specs.Folder.{Remove};
-ghost use Rattle.sw_disk.specs.Runs.{Runs, refusal_of};
-ghost use Rattle.sw_disk.specs.declared.refusal.DiskRefusal.TheVariants.{NoMemory};
-ghost use Rattle.sw_diskfile.specs.Calls.{tidy_calls};
+ghost use Rattle.std.specs.Prelude.{◌≡◌, ◌≤◌, ℕ, ◌∷◌, List, IfErr, IsErrOf, OnOk, length, map, string_bytes};
+ghost use Rattle.std.specs.List.{All};
+ghost use Rattle.sw_disk.specs.Answers.{IsNotFull, names_of, texts_of};
+ghost use Rattle.sw_disk.specs.Calls.{SyncDir};
+ghost use Rattle.sw_disk.specs.Folder.{Remove, files_of};
+ghost use Rattle.sw_disk.specs.Runs.{IfTold, Runs, refusal_of};
+ghost use Rattle.sw_disk.specs.declared.refusal.DiskRefusal.TheVariants.{Failed, NoMemory};
+ghost use Rattle.sw_diskfile.specs.Calls.{purge_calls, tidy_calls};
 ghost use Rattle.sw_diskfile.specs.Changes.{Changes, HasNonePending, IfBothTold, IsAsBefore};
-ghost use Rattle.sw_diskfile.specs.Normal.{IsTidied, KeepsNormal, WithObsolete};
+ghost use Rattle.sw_diskfile.specs.Normal.{AreObsolete, IsTidied, KeepsNormal, Tidies, WithObsolete};
 
 use crate::looking::look;
 use crate::purging::{obsolete_texts, purge_by_calls};
@@ -29,9 +31,30 @@ pub fn tidy<D: Disk>(alloc: Global, disk: &mut D, folder: &str, is_primary: bool
     ensures stable { OnOk result (HasNonePending (D.seen disk.new).told folder.now) }
     ensures never_full { IfErr result IsNotFull }
 {
+    tidy_by_calls(alloc, disk, folder, is_primary)
+}
+
+// The calls of tidying: it is refused before the first removal, or removes the obsolete names.
+fn tidy_by_calls<D: Disk>(alloc: Global, disk: &mut D, folder: &str, is_primary: bool) -> Result<(), DiskRefusal>
+    requires { length folder.now ≤ 64 }
+    ensures runs { Tidies D.seen D.left_since folder.now is_primary (refusal_of result) disk.old disk.new }
+    ensures never_full { IfErr result IsNotFull }
+{
     let dir = look(alloc, disk, folder)?;
     let obsolete = obsolete_texts(alloc, &dir, is_primary)?;
     disk.ready(alloc, folder, obsolete.len())?;
+    settle_and_purge(disk, folder, is_primary, &obsolete)
+}
+
+// Makes a folder stable, and removes what is obsolete in it.
+fn settle_and_purge<D: Disk>(disk: &mut D, folder: &str, is_primary: bool, obsolete: &[String]) -> Result<(), DiskRefusal>
+    requires folder { length folder.now ≤ 64 }
+    requires obsolete { IfTold (D.seen disk.old).told (λ state. AreObsolete is_primary (names_of (files_of (state.folder folder.now))) (texts_of obsolete.now)) }
+    requires short { All (λ name. length (string_bytes name) ≤ 96) obsolete.now }
+    requires room { length obsolete.now ≤ (D.seen disk.old).room folder.now }
+    ensures runs { Runs D.seen D.left_since (SyncDir folder.now ∷ purge_calls folder.now (texts_of obsolete.now)) (refusal_of result) disk.old disk.new }
+    ensures cause { IfErr result (λ refusal. refusal ≡ Failed) }
+{
     disk.sync_dir(folder)?;
-    purge_by_calls(disk, folder, is_primary, &obsolete)
+    purge_by_calls(disk, folder, is_primary, obsolete)
 }

@@ -13,7 +13,7 @@ use Rattle.sw_hashdir.specs.declared.floor.FloorKind.TheVariants as kind
 
 -- ---- floors, in order
 
-kind_either : (k : FloorKind) → (k ≡ kind.Tombstone) ⊎ (k ≡ kind.Durable)
+pub kind_either : (k : FloorKind) → (k ≡ kind.Tombstone) ⊎ (k ≡ kind.Durable)
 kind_either kind.Durable = inr refl
 kind_either kind.Tombstone = inl refl
 

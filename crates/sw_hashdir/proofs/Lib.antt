@@ -1,6 +1,6 @@
 pub mod Directories
 mod Listed
 mod Listings
-pub mod Obsoletes
-pub mod Ordered
+mod Obsoletes
+mod Ordered
 pub mod Texts

@@ -12,7 +12,7 @@ use Rattle.sw_diskfile.specs.Changes.{Changes, HasNonePending, IfBothTold}
 use Rattle.sw_diskfile.specs.Names.{MakesName}
 use Rattle.sw_diskfile.proofs.CallLists.{makes_commit}
 use Rattle.sw_diskfile.proofs.Directories.{durable_directory}
-use Rattle.sw_diskfile.proofs.Outcomes.{all_stand, changes_run, on_ok, stable_run}
+use Rattle.sw_diskfile.proofs.Outcomes.{all_stand, changes_run, on_ok, refused_before, stable_run}
 use Rattle.sw_diskfile.proofs.committing.commit.Goals as goal
 
 pub returns-clause-changes : goal.returns-clause-changes
@@ -22,7 +22,7 @@ returns-clause-changes g c =
     let disk = c.args.disk.now in
     changes_run g.D.Disk.seen g.D.Disk.left_since folder (commit_calls folder (text false) (text true)) (Rename (text false) (text true) ∷ []) (makes_commit folder (text false) (text true)) disk c.commit_by_calls.new.disk (refusal_of c.commit_by_calls.result)
     (g.met.D.Disk.now disk folder) (g.met.D.Disk.only_now disk folder) (λ since later image. g.met.D.Disk.earlier disk since later folder image)
-    c.commit_by_calls.ensures.runs (λ reason is other. (RenameFile folder (text false) (text true), c.commit_by_calls.ensures.early reason is other))
+    c.commit_by_calls.ensures.runs (λ reason is other. refused_before folder g.D.Disk.seen g.D.Disk.left_since (RenameFile folder (text false) (text true)) reason disk c.commit_by_calls.new.disk (c.commit_by_calls.ensures.early reason is other))
 
 pub returns-clause-directory : goal.returns-clause-directory
 returns-clause-directory g c =

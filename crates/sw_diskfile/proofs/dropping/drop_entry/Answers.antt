@@ -14,7 +14,7 @@ use Rattle.sw_diskfile.specs.Names.{DropsName}
 use Rattle.sw_diskfile.proofs.CallLists.{makes_drop}
 use Rattle.sw_diskfile.proofs.Directories.{dropped_directory}
 use Rattle.sw_diskfile.proofs.Kept.{always}
-use Rattle.sw_diskfile.proofs.Outcomes.{all_stand, changes_run, on_ok, stable_run}
+use Rattle.sw_diskfile.proofs.Outcomes.{all_stand, changes_run, on_ok, refused_before, stable_run}
 use Rattle.sw_diskfile.proofs.dropping.drop_entry.Goals as goal
 
 pub returns-clause-changes : goal.returns-clause-changes
@@ -24,7 +24,7 @@ returns-clause-changes g c =
     let disk = c.args.disk.now in
     changes_run g.D.Disk.seen g.D.Disk.left_since folder (drop_calls folder text) (Remove text ∷ []) (makes_drop folder text) disk c.drop_by_calls.new.disk (refusal_of c.drop_by_calls.result)
     (g.met.D.Disk.now disk folder) (g.met.D.Disk.only_now disk folder) (λ since later image. g.met.D.Disk.earlier disk since later folder image)
-    c.drop_by_calls.ensures.runs (λ reason is other. (RemoveFile folder text, c.drop_by_calls.ensures.early reason is other))
+    c.drop_by_calls.ensures.runs (λ reason is other. refused_before folder g.D.Disk.seen g.D.Disk.left_since (RemoveFile folder text) reason disk c.drop_by_calls.new.disk (c.drop_by_calls.ensures.early reason is other))
 
 pub returns-clause-directory : goal.returns-clause-directory
 returns-clause-directory g c =

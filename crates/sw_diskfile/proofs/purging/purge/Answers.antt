@@ -7,7 +7,7 @@ use Rattle.sw_diskfile.specs.Calls.{purge_calls}
 use Rattle.sw_diskfile.specs.Changes.{HasNonePending, IfBothTold}
 use Rattle.sw_diskfile.specs.Normal.{AreObsolete, IsTidied}
 use Rattle.sw_diskfile.proofs.CallLists.{makes_purge}
-use Rattle.sw_diskfile.proofs.Keeping.{keeps, tidied}
+use Rattle.sw_diskfile.proofs.Keeping.{keeps, keeps_removed, tidied}
 use Rattle.sw_diskfile.proofs.Outcomes.{all_stand, changes_run, on_ok, only_fails, stable_run}
 use Rattle.sw_diskfile.proofs.Removing.{no_names, removals, some_purge}
 use Rattle.sw_diskfile.proofs.purging.purge.Goals as goal
@@ -34,7 +34,8 @@ pub returns-clause-keeps : goal.returns-clause-keeps
 returns-clause-keeps g c =
     let folder = c.args.folder.now in
     let disk = c.args.disk.now in
-    keeps c.args.is_primary (texts_of c.args.obsolete.now) g.D.Disk.seen g.D.Disk.left_since folder disk c.purge_by_calls.new.disk (refusal_of c.purge_by_calls.result) c.requires.obsolete
+    let texts = texts_of c.args.obsolete.now in
+    keeps c.args.is_primary (λ files. AreObsolete c.args.is_primary (names_of files) texts) (map Remove texts) (keeps_removed c.args.is_primary texts) g.D.Disk.seen g.D.Disk.left_since folder disk c.purge_by_calls.new.disk (refusal_of c.purge_by_calls.result) c.requires.obsolete
     (g.met.D.Disk.now disk folder) (λ since later image. g.met.D.Disk.earlier disk since later folder image) (returns-clause-changes g c)
 
 pub returns-clause-stable : goal.returns-clause-stable

@@ -12,7 +12,7 @@ use Rattle.sw_diskfile.specs.Names.{MakesName}
 use Rattle.sw_diskfile.proofs.CallLists.{makes_store}
 use Rattle.sw_diskfile.proofs.Directories.{made_directory}
 use Rattle.sw_diskfile.proofs.Kept.{always}
-use Rattle.sw_diskfile.proofs.Outcomes.{all_stand, changes_run, on_ok, stable_run}
+use Rattle.sw_diskfile.proofs.Outcomes.{all_stand, changes_run, on_ok, refused_before, stable_run}
 use Rattle.sw_diskfile.proofs.storing.make_file.Goals as goal
 
 pub returns-clause-changes : goal.returns-clause-changes
@@ -23,7 +23,7 @@ returns-clause-changes g c =
     let disk = c.args.disk.now in
     changes_run g.D.Disk.seen g.D.Disk.left_since folder (store_calls folder text bytes) (new_file text bytes ∷ []) (makes_store folder text bytes) disk c.file_by_calls.new.disk (refusal_of c.file_by_calls.result)
     (g.met.D.Disk.now disk folder) (g.met.D.Disk.only_now disk folder) (λ since later image. g.met.D.Disk.earlier disk since later folder image)
-    c.file_by_calls.ensures.runs (λ reason is other. (WriteTmp bytes, c.file_by_calls.ensures.early reason is other))
+    c.file_by_calls.ensures.runs (λ reason is other. refused_before folder g.D.Disk.seen g.D.Disk.left_since (WriteTmp bytes) reason disk c.file_by_calls.new.disk (c.file_by_calls.ensures.early reason is other))
 
 pub returns-clause-directory : goal.returns-clause-directory
 returns-clause-directory g c =

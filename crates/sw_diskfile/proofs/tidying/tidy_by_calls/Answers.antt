@@ -1,0 +1,65 @@
+use Rattle.std.proofs.Common.{◌≡◌, ℕ, List, [], ◌∷◌, inl, inr, None, Some, Option, Global, String, refl, sym, ap, subst}
+use Rattle.std.proofs.lemmas.Result.{err_from_is_err_and}
+use Rattle.sw_disk.specs.Answers.{names_of, texts_of}
+use Rattle.sw_disk.specs.Calls.{ListNames, SyncDir}
+use Rattle.sw_disk.specs.Folder.{File, files_of}
+use Rattle.sw_disk.specs.Runs.{IfTold, Runs, refusal_of}
+use Rattle.sw_disk.specs.State.{State}
+use Rattle.sw_disk.specs.declared.refusal.DiskRefusal.TheVariants.{NoMemory}
+use Rattle.sw_disk.proofs.Chains.{runs_after, runs_more, told_map}
+use Rattle.sw_diskfile.specs.Calls.{purge_calls}
+use Rattle.sw_diskfile.specs.Names.{IsDirectoryOf}
+use Rattle.sw_diskfile.specs.Normal.{AreObsolete}
+use Rattle.sw_diskfile.proofs.Begun.{refused_early, unbegun}
+use Rattle.sw_diskfile.proofs.Kept.{quiet_keeps}
+use Rattle.sw_diskfile.proofs.Outcomes.{only_fails}
+use Rattle.sw_diskfile.proofs.Tidied.{look_done, look_refused}
+use Rattle.sw_diskfile.proofs.tidying.tidy_by_calls.Goals as goal
+
+pub returns-in_err-dir-clause-runs : goal.returns-in_err-dir-clause-runs
+returns-in_err-dir-clause-runs g c =
+    let p = err_from_is_err_and c.from_residual.result c.from_residual.ensures.1 in
+    let reason = c.in_err-dir.field-0.0 in
+    rw (p.1, p.2) (inl (reason, refl, look_refused g.D.Disk.seen g.D.Disk.left_since c.args.folder.now c.args.disk.now c.look.new.disk reason c.in_err-dir.ensures.runs))
+
+pub returns-in_err-obsolete-clause-runs : goal.returns-in_err-obsolete-clause-runs
+returns-in_err-obsolete-clause-runs g c =
+    let p = err_from_is_err_and c.from_residual-in_err-obsolete.result c.from_residual-in_err-obsolete.ensures.1 in
+    let folder = c.args.folder.now in
+    let looked = look_done g.D.Disk.seen g.D.Disk.left_since folder c.args.disk.now c.look.new.disk c.in_ok-dir.ensures.runs in
+    rw (p.1, p.2) (inl (NoMemory, refl,
+    runs_more g.D.Disk.seen g.D.Disk.left_since (ListNames folder ∷ []) (SyncDir folder ∷ []) (Some NoMemory) c.args.disk.now c.look.new.disk c.look.new.disk looked
+    (unbegun g.D.Disk.seen g.D.Disk.left_since (SyncDir folder) [] NoMemory c.look.new.disk (λ failed. cc))))
+
+pub returns-in_err-ready-clause-runs : goal.returns-in_err-ready-clause-runs
+returns-in_err-ready-clause-runs g c =
+    let p = err_from_is_err_and c.from_residual-in_err-ready.result c.from_residual-in_err-ready.ensures.1 in
+    let folder = c.args.folder.now in
+    let looked = look_done g.D.Disk.seen g.D.Disk.left_since folder c.args.disk.now c.look.new.disk c.in_ok-dir.ensures.runs in
+    rw (p.1, p.2, c.in_err-ready.ensures.cause) (inl (NoMemory, refl,
+    runs_more g.D.Disk.seen g.D.Disk.left_since (ListNames folder ∷ []) (SyncDir folder ∷ []) (Some NoMemory) c.args.disk.now c.look.new.disk c.ready.new.self looked
+    (refused_early g.D.Disk.seen g.D.Disk.left_since (SyncDir folder) [] NoMemory c.ready.new.self (λ failed. cc) c.look.new.disk c.in_err-ready.ensures.untouched)))
+
+pub settle_and_purge-requires-clause-obsolete : goal.settle_and_purge-requires-clause-obsolete
+settle_and_purge-requires-clause-obsolete g c =
+    let folder = c.args.folder.now in
+    let texts = texts_of c.in_ok-obsolete.obsolete.items in
+    let P = λ (files : List File). AreObsolete c.args.is_primary (names_of files) texts in
+    let first = told_map (g.D.Disk.seen c.args.disk.now).told (λ s. IsDirectoryOf (s.folder folder) c.in_ok-dir.dir) (λ s. P (files_of (s.folder folder))) c.in_ok-dir.ensures.directory
+    (λ s directory. record { names = c.in_ok-dir.dir; directory = directory; all = c.in_ok-obsolete.ensures.all; ascend = c.in_ok-obsolete.ensures.ascend }) in
+    let looked = look_done g.D.Disk.seen g.D.Disk.left_since folder c.args.disk.now c.look.new.disk c.in_ok-dir.ensures.runs in
+    let listed = quiet_keeps g.D.Disk.seen g.D.Disk.left_since c.args.disk.now c.look.new.disk (ListNames folder ∷ []) folder P tt looked first in
+    let ready = subst (λ (o : Option State). IfTold o (λ s. P (files_of (s.folder folder)))) (sym c.in_ok-ready.ensures.untouched.told) listed in
+    subst (λ (names : List (String Global)). IfTold (g.D.Disk.seen c.ready.new.self).told (λ s. AreObsolete c.args.is_primary (names_of (files_of (s.folder folder))) (texts_of names))) (sym c.deref.ensures.value) ready
+
+pub returns-clause-runs : goal.returns-clause-runs
+returns-clause-runs g c =
+    let folder = c.args.folder.now in
+    let texts = texts_of c.in_ok-obsolete.obsolete.items in
+    let first = told_map (g.D.Disk.seen c.args.disk.now).told (λ s. IsDirectoryOf (s.folder folder) c.in_ok-dir.dir) (λ s. AreObsolete c.args.is_primary (names_of (files_of (s.folder folder))) texts) c.in_ok-dir.ensures.directory
+    (λ s directory. record { names = c.in_ok-dir.dir; directory = directory; all = c.in_ok-obsolete.ensures.all; ascend = c.in_ok-obsolete.ensures.ascend }) in
+    let looked = look_done g.D.Disk.seen g.D.Disk.left_since folder c.args.disk.now c.look.new.disk c.in_ok-dir.ensures.runs in
+    let purged = subst (λ (l : List (String Global)). Runs g.D.Disk.seen g.D.Disk.left_since (SyncDir folder ∷ purge_calls folder (texts_of l)) (refusal_of c.settle_and_purge.result) c.ready.new.self c.settle_and_purge.new.disk) c.deref.ensures.value c.settle_and_purge.ensures.runs in
+    inr (texts, first, (λ reason is. only_fails c.settle_and_purge.result reason c.settle_and_purge.ensures.cause is),
+    runs_more g.D.Disk.seen g.D.Disk.left_since (ListNames folder ∷ []) (SyncDir folder ∷ purge_calls folder texts) (refusal_of c.settle_and_purge.result) c.args.disk.now c.look.new.disk c.settle_and_purge.new.disk looked
+    (runs_after g.D.Disk.seen g.D.Disk.left_since (SyncDir folder ∷ purge_calls folder texts) (refusal_of c.settle_and_purge.result) c.look.new.disk c.ready.new.self c.settle_and_purge.new.disk c.in_ok-ready.ensures.untouched purged))
