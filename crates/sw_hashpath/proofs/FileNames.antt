@@ -1,11 +1,10 @@
 -- What stands behind the stamp in the name of a file.
-use Rattle.std.proofs.Common.{◌≡◌, ◌≢◌, ℕ, zero, suc, ◌/◌, ◌%◌, ◌+◌, ◌<◌, ◌≤◌, Bool, true, false, if◌then◌else◌, codes, List, [], ◌∷◌, ◌++◌, drop, length, take, Option, Some, refl, sym, subst, ap, ◌∙◌, append_assoc, append-nil, length-append, add-one, arith}
+use Rattle.std.proofs.Common.{◌≡◌, ◌≢◌, ℕ, ◌<◌, ◌≤◌, Bool, true, false, if◌then◌else◌, codes, List, [], ◌∷◌, ◌++◌, drop, length, take, Option, Some, refl, sym, subst, ap, ◌∙◌, append_assoc, append-nil, length-append, arith}
 use Rattle.std.specs.Fmt.{decimal}
 use Rattle.std.specs.List.{IsSplitAt}
 use Rattle.std.specs.Str.Parse.{AllDigits}
 use Rattle.std.proofs.lemmas.Fmt.{decimal_is_IsNumeral}
 use Rattle.std.proofs.lemmas.List.{append_cancel_left, append_cancel_right, drop_at, take_at, take-append-drop}
-use Rattle.sw_types.specs.Decimal.{last_digits}
 use Rattle.sw_types.specs.Policy.{greatest_total}
 use Rattle.sw_types.specs.Stamp.{greatest_stamp, stamp_text}
 use Rattle.sw_types.proofs.DigitsRead.{length-stamp_text}
