@@ -1,5 +1,5 @@
 -- Runs that were refused before their first call.
-use Rattle.std.proofs.Common.{◌≡◌, ◌≢◌, ℕ, List, [], ◌∷◌, Some}
+use Rattle.std.proofs.Common.{◌≢◌, List, ◌∷◌, Some}
 use Rattle.sw_disk.specs.Calls.{Call}
 use Rattle.sw_disk.specs.Runs.{IsUntouched, Past, Runs, Seen}
 use Rattle.sw_disk.specs.declared.refusal.DiskRefusal.{DiskRefusal}

@@ -1,5 +1,5 @@
 -- Which changes the lists of calls make.
-use Rattle.std.proofs.Common.{◌≡◌, inl, inr, ℕ, Bool, cond, List, [], ◌∷◌, ◌++◌, map, Option, refl, sym, ◌∙◌, ap}
+use Rattle.std.proofs.Common.{◌≡◌, inl, inr, ℕ, Bool, cond, List, [], ◌∷◌, ◌++◌, map, Option, refl, ◌∙◌, ap}
 use Rattle.sw_disk.specs.Calls.{Call, ListNames, WriteTmp, SyncTmp, PublishTmp, RenameFile, RemoveFile, SyncDir}
 use Rattle.sw_disk.specs.Folder.{Change, Rename, Remove, Content}
 use Rattle.sw_disk.proofs.Images.{same_name-refl}

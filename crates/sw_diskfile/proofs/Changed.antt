@@ -1,17 +1,13 @@
 -- Runs of calls as changes of one folder.
-use Rattle.std.proofs.Common.{◌≡◌, ◌≢◌, ◌⊎◌, inl, inr, ⊎_elim, ℕ, zero, suc, ◌+◌, ◌≤◌, Bool, true, false, cond, List, [], ◌∷◌, ◌++◌, length, map, take, Option, Some, None, refl, sym, ◌∙◌, ap, subst, arith, append_assoc}
-use Rattle.std.proofs.lemmas.List.{append-nil, take-append-le, take_all}
-use Rattle.std.proofs.Math.Seq.{take-append-add}
+use Rattle.std.proofs.Common.{◌≡◌, ◌⊎◌, ⊎_elim, ℕ, zero, suc, ◌≤◌, Bool, true, false, cond, List, [], ◌∷◌, ◌++◌, length, take, Option, refl, sym, ◌∙◌, ap, subst, arith, append_assoc}
+use Rattle.std.proofs.lemmas.List.{take-append-le, take_all}
 use Rattle.sw_disk.specs.Calls.{Call, SyncDir, Step, Do, Settle, calls_in}
 use Rattle.sw_disk.specs.Folder.{Change, Content, File, Folder, IsImage, Survive, all_changed, files_of, same_name}
-use Rattle.sw_disk.specs.Runs.{IfTold, IsWithin, LeavesOnly, Past, Runs, Seen, Stops, StopsTold}
-use Rattle.sw_disk.specs.State.{State, after, run, settled, with_folder}
-use Rattle.sw_disk.specs.declared.refusal.DiskRefusal.{DiskRefusal}
-use Rattle.sw_disk.specs.declared.refusal.DiskRefusal.TheVariants.{Failed, Full, NoMemory}
+use Rattle.sw_disk.specs.State.{State, after, run, settled}
 use Rattle.sw_disk.proofs.Images.{image_of_all, with_folder-same}
-use Rattle.sw_diskfile.specs.Changes.{Changes, IsAsBefore, IsFirstPart, IsSettled, Stands, SurvivesPart}
+use Rattle.sw_diskfile.specs.Changes.{IsAsBefore, IsFirstPart, SurvivesPart}
 use Rattle.sw_diskfile.proofs.Steps.{changes_by, changes_of, run_files, run_images, temporary_by}
-use Rattle.sw_diskfile.proofs.Synced.{AreSynced, AreSyncedChanges, all_synced, settled_synced, survive_exactly, take_synced}
+use Rattle.sw_diskfile.proofs.Synced.{AreSyncedChanges}
 
 -- ---- first parts
 

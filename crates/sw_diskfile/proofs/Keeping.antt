@@ -1,5 +1,5 @@
 -- A folder keeps its normal form while obsolete files are removed.
-use Rattle.std.proofs.Common.{◌≡◌, ◌⊎◌, ⊎_elim, ℕ, zero, suc, ◌≤◌, Bool, true≢false, Contains, List, [], length, map, take, Option, Some, None, IsSome, refl, sym, ◌∙◌, ap, subst, arith}
+use Rattle.std.proofs.Common.{◌≡◌, ◌⊎◌, ⊎_elim, ℕ, zero, suc, ◌≤◌, Bool, true≢false, List, [], length, map, take, Option, Some, None, IsSome, refl, sym, ◌∙◌, ap, subst, arith}
 use Rattle.std.specs.Prelude.{⊤}
 use Rattle.std.proofs.lemmas.List.{take_all}
 use Rattle.sw_disk.specs.Answers.{names_of}
@@ -9,11 +9,9 @@ use Rattle.sw_disk.specs.State.{State}
 use Rattle.sw_disk.specs.declared.refusal.DiskRefusal.{DiskRefusal}
 use Rattle.sw_disk.specs.declared.refusal.DiskRefusal.TheVariants.{Failed, Full, NoMemory}
 use Rattle.sw_disk.proofs.Images.{image_of_all}
-use Rattle.sw_hashpath.specs.declared.file_name.FileName.{FileName}
 use Rattle.sw_hashdir.specs.Directory.{IsDirectory}
-use Rattle.sw_hashdir.specs.Obsolete.{IsObsolete}
 use Rattle.sw_hashpath.specs.FileName.{file_name_text}
-use Rattle.sw_diskfile.specs.Changes.{Changes, IfBothTold, IsFirstPart, IsSettled, Stands, SurvivesPart}
+use Rattle.sw_diskfile.specs.Changes.{Changes, IsFirstPart, IsSettled, Stands, SurvivesPart}
 use Rattle.sw_diskfile.specs.Normal.{AreObsolete, HaveOneNormalForm, IsNormalForm, IsTidied, KeepsNormal}
 use Rattle.sw_diskfile.proofs.Lists.{Contains-none}
 use Rattle.sw_diskfile.proofs.Normal.{all_normal, floor_stays, image_normal, none_left, part_normal, same_itself}
@@ -86,6 +84,9 @@ module _ (is_primary : Bool) (obsolete : List (List ℕ)) where
       let files = files_of before in
       let left = none_left is_primary obsolete files are in
       record {
+        obsolete = obsolete;
+        are = are;
+        removed = is;
         normal = subst (λ (fs : List File). IsNormalForm is_primary files fs) (sym is) (all_normal is_primary obsolete files are);
         none = λ names name directory is_obsolete.
             let same = one_directory (names_of (all_changed (map Remove obsolete) files)) names left.names (subst (λ (fs : List File). IsDirectory (names_of fs) names) is directory) left.directory in

@@ -1,9 +1,8 @@
 -- What a disk that tells still holds after calls that change no name.
-use Rattle.std.proofs.Common.{◌≡◌, ℕ, false, List, [], ◌∷◌, Option, Some, None, refl, sym, ap, subst}
+use Rattle.std.proofs.Common.{ℕ, false, List, [], ◌∷◌, Option, Some, None, refl, sym, subst}
 use Rattle.std.specs.Prelude.{IsSome, ⊤}
-use Rattle.sw_disk.specs.Answers.{HasFile, LacksFile}
-use Rattle.sw_disk.specs.Calls.{Call, SyncTmp, WriteTmp, calls_in}
-use Rattle.sw_disk.specs.Folder.{Content, File, content_at, files_of}
+use Rattle.sw_disk.specs.Calls.{Call, SyncTmp, WriteTmp}
+use Rattle.sw_disk.specs.Folder.{File, files_of}
 use Rattle.sw_disk.specs.Runs.{IfTold, Past, Runs, Seen}
 use Rattle.sw_disk.specs.State.{State, synced}
 use Rattle.sw_disk.proofs.Settling.{AreQuiet, carry, files_kept, some_synced, temporary_after}

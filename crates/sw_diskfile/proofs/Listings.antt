@@ -1,6 +1,5 @@
 -- Directories of listings.
-use Rattle.std.proofs.Common.{◌↔◌, ℕ, List}
-use Rattle.std.specs.List.{Contains}
+use Rattle.std.proofs.Common.{ℕ, List}
 use Rattle.std.proofs.lemmas.List.Sorted.{Contains-permutation, IsPermutation-sym}
 use Rattle.sw_disk.specs.Answers.{IsListing}
 use Rattle.sw_hashpath.specs.FileName.{file_name_text}

@@ -1,12 +1,12 @@
 -- What a run of calls that make changes of a folder leaves there.
-use Rattle.std.proofs.Common.{◌≡◌, ◌≢◌, ◌⊎◌, inl, inr, ⊎_elim, ℕ, ◌≤◌, List, [], ◌∷◌, ◌++◌, length, take, Option, Some, None, Result, Ok, Err, IfErr, IsErrOf, OnOk, refl, sym, ◌∙◌, ap, subst, arith}
+use Rattle.std.proofs.Common.{◌≡◌, ◌≢◌, ◌⊎◌, inl, inr, ⊎_elim, ℕ, ◌≤◌, List, [], ◌∷◌, ◌++◌, take, Option, Some, None, Result, Ok, Err, IfErr, IsErrOf, OnOk, refl, sym, ◌∙◌, ap, subst, arith}
 use Rattle.std.specs.Prelude.{⊤}
 use Rattle.std.proofs.lemmas.List.{append-nil}
 use Rattle.sw_disk.specs.Answers.{IsNotFull}
 use Rattle.sw_disk.specs.Calls.{Call, SyncDir, Step, calls_in}
-use Rattle.sw_disk.specs.Folder.{Change, Content, File, Folder, IsImage, Survive, all_changed, files_of}
+use Rattle.sw_disk.specs.Folder.{Change, Content, File, Folder, IsImage, all_changed, files_of}
 use Rattle.sw_disk.specs.Runs.{IfTold, IsWithin, Past, Runs, Seen, StopsTold, refusal_of}
-use Rattle.sw_disk.specs.State.{State, run, stopped}
+use Rattle.sw_disk.specs.State.{State, run}
 use Rattle.sw_disk.specs.declared.refusal.DiskRefusal.{DiskRefusal}
 use Rattle.sw_disk.specs.declared.refusal.DiskRefusal.TheVariants.{Failed, Full, NoMemory}
 use Rattle.sw_disk.proofs.Chains.{steps_of}

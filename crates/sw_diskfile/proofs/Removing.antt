@@ -1,9 +1,9 @@
 -- Files that are removed one after the other.
-use Rattle.std.proofs.Common.{◌≡◌, ℕ, ◌+◌, ◌<◌, Bool, cond, List, [], ◌∷◌, ◌++◌, Option, None, Global, String, drop, get_or, length, map, string_bytes, take, refl, sym, ap, subst, ◌∙◌, arith}
+use Rattle.std.proofs.Common.{◌≡◌, ℕ, ◌+◌, ◌<◌, Bool, cond, List, [], ◌∷◌, ◌++◌, None, Global, String, drop, get_or, length, map, string_bytes, take, refl, sym, ap, subst, ◌∙◌, arith}
 use Rattle.std.proofs.lemmas.List.{drop_more, map-append, map_push, take-append-drop, take_more}
 use Rattle.sw_disk.specs.Answers.{names_of, texts_of}
 use Rattle.sw_disk.specs.Calls.{Call, RemoveFile, SyncDir, Step, calls_in}
-use Rattle.sw_disk.specs.Folder.{Change, File, Remove, all_changed, changed, files_of}
+use Rattle.sw_disk.specs.Folder.{File, Remove, all_changed, changed, files_of}
 use Rattle.sw_disk.specs.Runs.{IfTold, Past, Runs, Seen}
 use Rattle.sw_disk.specs.State.{State, run}
 use Rattle.sw_disk.proofs.Images.{same_name-refl}

@@ -1,10 +1,9 @@
 -- What steps do to one folder: which changes of names they make, and what a crash within them leaves.
-use Rattle.std.proofs.Common.{◌≡◌, ◌⊎◌, inl, inr, ⊎_elim, ℕ, zero, suc, ◌+◌, ◌≤◌, Bool, true, false, cond, List, [], ◌∷◌, ◌++◌, length, map, take, Option, Some, None, refl, sym, ◌∙◌, ap, subst, arith, append_assoc}
+use Rattle.std.proofs.Common.{◌≡◌, ◌⊎◌, inl, inr, ⊎_elim, ℕ, zero, suc, ◌+◌, Bool, true, false, cond, List, [], ◌∷◌, ◌++◌, length, take, Option, Some, None, refl, sym, ◌∙◌, ap, subst}
 use Rattle.std.specs.Cmp.Lexicographic.{same_text}
-use Rattle.std.proofs.lemmas.List.{append-nil, take-append-le, take_all}
 use Rattle.std.proofs.Math.Seq.{take-append-add}
 use Rattle.sw_disk.specs.Calls.{Call, ListFolders, ListNames, ReadFile, WriteTmp, SyncTmp, PublishTmp, RenameFile, RemoveFile, SyncDir, Step, Do, Settle, calls_in}
-use Rattle.sw_disk.specs.Folder.{Change, Publish, Rename, Remove, Content, File, Folder, IsImage, Survive, all_changed, changed, files_of, same_name}
+use Rattle.sw_disk.specs.Folder.{Change, Publish, Rename, Remove, Content, File, Folder, IsImage, Survive, all_changed, files_of, same_name}
 use Rattle.sw_disk.specs.State.{State, after, pended, published, run, settled, synced, with_folder}
 use Rattle.sw_diskfile.specs.Changes.{SurvivesPart}
 use Rattle.sw_disk.proofs.Images.{all_changed-append, image-pended, image-settled, image_of_all}

@@ -1,7 +1,7 @@
 -- Files whose bytes are on the disk.
-use Rattle.std.proofs.Common.{◌≡◌, ℕ, zero, suc, Bool, true, false, cond, not, List, [], ◌∷◌, ◌++◌, map, take, refl, sym, ◌∙◌, ap, subst}
+use Rattle.std.proofs.Common.{◌≡◌, ℕ, zero, suc, Bool, true, false, cond, not, List, [], ◌∷◌, ◌++◌, map, take, refl, subst}
 use Rattle.std.specs.Prelude.{⊤}
-use Rattle.sw_disk.specs.Folder.{Change, Publish, Rename, Remove, Content, File, Folder, IsImage, Survive, all_changed, changed, files_of, renamed, same_name}
+use Rattle.sw_disk.specs.Folder.{Change, Publish, Rename, Remove, File, Folder, Survive, all_changed, changed, files_of, renamed, same_name}
 use Rattle.sw_disk.proofs.Images.{image_of_all, survives_synced}
 use Rattle.sw_diskfile.specs.Changes.{IsSettled}
 

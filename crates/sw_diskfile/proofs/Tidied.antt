@@ -1,5 +1,5 @@
 -- What a run of tidying leaves.
-use Rattle.std.proofs.Common.{◌≡◌, ◌≢◌, ◌⊎◌, inl, inr, ⊎_elim, ℕ, ◌≤◌, Bool, List, [], ◌∷◌, ◌++◌, map, Option, Some, None, refl, sym, ap, subst, ◌∙◌}
+use Rattle.std.proofs.Common.{◌≡◌, ◌≢◌, inl, inr, ℕ, ◌≤◌, Bool, List, [], ◌∷◌, map, Option, Some, None, refl, sym, subst}
 use Rattle.std.specs.Prelude.{⊤}
 use Rattle.sw_disk.specs.Answers.{names_of}
 use Rattle.sw_disk.specs.Calls.{Call, ListNames, SyncDir}
@@ -7,7 +7,7 @@ use Rattle.sw_disk.specs.Folder.{File, IsImage, Remove, files_of}
 use Rattle.sw_disk.specs.Runs.{IfTold, Past, Runs, Seen}
 use Rattle.sw_disk.specs.State.{State}
 use Rattle.sw_disk.specs.declared.refusal.DiskRefusal.{DiskRefusal}
-use Rattle.sw_disk.specs.declared.refusal.DiskRefusal.TheVariants.{Failed, NoMemory}
+use Rattle.sw_disk.specs.declared.refusal.DiskRefusal.TheVariants.{Failed}
 use Rattle.sw_disk.proofs.Chains.{runs_more, runs_stop, told_map}
 use Rattle.sw_diskfile.specs.Calls.{purge_calls, tidy_calls}
 use Rattle.sw_diskfile.specs.Changes.{Changes, HasNonePending, IfBothTold, IsAsBefore}

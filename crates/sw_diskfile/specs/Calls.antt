@@ -1,5 +1,5 @@
 -- The device calls of each change of a folder, in their order.
-use Rattle.std.specs.Prelude.{◌≡◌, ℕ, List, [], ◌∷◌, ◌++◌, length, map}
+use Rattle.std.specs.Prelude.{ℕ, List, [], ◌∷◌, ◌++◌, map}
 use Rattle.sw_disk.specs.Calls.{Call, ListNames, WriteTmp, SyncTmp, PublishTmp, RenameFile, RemoveFile, SyncDir}
 
 -- a new file of these bytes

@@ -1,5 +1,5 @@
 -- What stands in a folder after changes of names, and what a crash at any moment leaves of them.
-use Rattle.std.specs.Prelude.{◌≡◌, ◌⊎◌, ℕ, ◌≤◌, true, List, [], ◌∷◌, take, Option, Some, None}
+use Rattle.std.specs.Prelude.{◌≡◌, ◌⊎◌, ℕ, ◌≤◌, true, List, [], take, Option, Some, None}
 use Rattle.sw_disk.specs.Folder.{Change, Publish, File, Folder, IsImage, Survive, all_changed, files_of}
 use Rattle.sw_disk.specs.Runs.{IfTold, LeavesOnly, Past, Seen}
 use Rattle.sw_disk.specs.State.{State}

@@ -1,11 +1,11 @@
 -- A folder without the names that are obsolete in it.
-use Rattle.std.specs.Prelude.{◌≡◌, ◌⊎◌, ◌↔◌, ℕ, ◌≤◌, Bool, List, [], ◌∷◌, Contains, Option, Some, IsSome}
+use Rattle.std.specs.Prelude.{◌≡◌, ◌⊎◌, ◌↔◌, ℕ, ◌≤◌, Bool, List, [], ◌∷◌, Contains, map, Option, Some, IsSome}
 use Rattle.std.specs.List.{AllPairs}
 use Rattle.std.specs.Cmp.Lexicographic.{slice_cmp}
 use Rattle.std.specs.Ordering.{nat_cmp}
 use Rattle.std.specs.declared.cmp.Ordering.TheVariants.{Less}
 use Rattle.sw_disk.specs.Answers.{names_of}
-use Rattle.sw_disk.specs.Folder.{File, Folder, files_of}
+use Rattle.sw_disk.specs.Folder.{File, Folder, Remove, all_changed, files_of}
 use Rattle.sw_disk.specs.Calls.{ListNames, SyncDir}
 use Rattle.sw_disk.specs.Runs.{IfTold, LeavesOnly, Past, Runs, Seen}
 use Rattle.sw_disk.specs.State.{State}
@@ -50,8 +50,11 @@ HaveOneNormalForm is_primary files others = (normal : List File) → IsNormalFor
 abbrev pub WithObsolete : Option State → List ℕ → Bool → (List (List ℕ) → Type 0) → Type 0
 WithObsolete told name is_primary P = IfTold told (λ state. (obsolete : List (List ℕ)) → AreObsolete is_primary (names_of (files_of (state.folder name))) obsolete → P obsolete)
 
--- nothing is obsolete any more, and the floor is the same
+-- what was obsolete is removed: nothing is any more, and the floor is the same
 pub record IsTidied (is_primary : Bool) (before after : Folder) : Type 0 where
+  pub obsolete : List (List ℕ)
+  pub are : AreObsolete is_primary (names_of (files_of before)) obsolete
+  pub removed : files_of after ≡ all_changed (map Remove obsolete) (files_of before)
   pub normal : IsNormalForm is_primary (files_of before) (files_of after)
   pub none : (names : List FileName) (name : FileName) → IsDirectory (names_of (files_of after)) names → IsObsolete is_primary names name → ⊥
   pub floor : (names later : List FileName) (floor : Option Floor) → IsDirectory (names_of (files_of before)) names → IsDirectory (names_of (files_of after)) later → IsFloor names floor → IsFloor later floor

@@ -77,7 +77,12 @@ fn commit_by_calls<D: Disk>(
 }
 
 // Gives a file another name, and makes that stable.
-fn rename_synced<D: Disk>(disk: &mut D, folder: &str, from: &str, to: &str) -> Result<(), DiskRefusal>
+fn rename_synced<D: Disk>(
+    disk: &mut D,
+    folder: &str,
+    from: &str,
+    to: &str,
+) -> Result<(), DiskRefusal>
     requires folder { length folder.now ≤ 64 }
     requires from { length from.now ≤ 96 }
     requires to { length to.now ≤ 96 }

@@ -23,7 +23,12 @@ use sw_hashpath::FileName;
 ///
 /// A plain name beside a durable one is obsolete, and stays where the durable one is dropped: tidy the folder first. Memory
 /// is taken before anything is changed.
-pub fn drop_entry<D: Disk>(alloc: Global, disk: &mut D, folder: &str, entry: Entry) -> Result<(), DiskRefusal>
+pub fn drop_entry<D: Disk>(
+    alloc: Global,
+    disk: &mut D,
+    folder: &str,
+    entry: Entry,
+) -> Result<(), DiskRefusal>
     requires folder { length folder.now ≤ 64 }
     requires index { entry.index < greatest_total }
     requires there { IfTold (D.seen disk.old).told (λ state. HasFile state folder.now (file_name_text (Data entry.stamp entry.index entry.durable))) }
@@ -38,7 +43,12 @@ pub fn drop_entry<D: Disk>(alloc: Global, disk: &mut D, folder: &str, entry: Ent
 }
 
 // The calls of a removal. Other refusals than a failure come before the first of them is done.
-fn drop_by_calls<D: Disk>(alloc: Global, disk: &mut D, folder: &str, entry: Entry) -> Result<(), DiskRefusal>
+fn drop_by_calls<D: Disk>(
+    alloc: Global,
+    disk: &mut D,
+    folder: &str,
+    entry: Entry,
+) -> Result<(), DiskRefusal>
     requires folder { length folder.now ≤ 64 }
     requires index { entry.index < greatest_total }
     requires there { IfTold (D.seen disk.old).told (λ state. HasFile state folder.now (file_name_text (Data entry.stamp entry.index entry.durable))) }

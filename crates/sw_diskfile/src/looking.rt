@@ -31,7 +31,12 @@ pub fn look<D: Disk>(alloc: Global, disk: &mut D, folder: &str) -> Result<HashDi
 
 /// The bytes of an entry of an index below 32 that is there: those of the file of its name, durable or plain as the entry
 /// says. Nothing is changed.
-pub fn fetch<D: Disk>(alloc: Global, disk: &mut D, folder: &str, entry: Entry) -> Result<Bytes, DiskRefusal>
+pub fn fetch<D: Disk>(
+    alloc: Global,
+    disk: &mut D,
+    folder: &str,
+    entry: Entry,
+) -> Result<Bytes, DiskRefusal>
     requires folder { length folder.now ≤ 64 }
     requires index { entry.index < greatest_total }
     requires there { IfTold (D.seen disk.old).told (λ state. HasFile state folder.now (file_name_text (Data entry.stamp entry.index entry.durable))) }

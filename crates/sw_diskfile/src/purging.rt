@@ -20,7 +20,11 @@ use sw_hashdir::HashDir;
 use sw_types::NoMemory;
 
 /// The texts of the names that are obsolete in a directory, ascending: those that `purge` takes.
-pub fn obsolete_texts(alloc: Global, dir: &HashDir, is_primary: bool) -> Result<Vec<String>, NoMemory>
+pub fn obsolete_texts(
+    alloc: Global,
+    dir: &HashDir,
+    is_primary: bool,
+) -> Result<Vec<String>, NoMemory>
     ensures all { IfOk result (λ texts. (text : List ℕ) → Contains (texts_of texts.items) text ↔ IsObsoleteText is_primary dir.now text) }
     ensures ascend { IfOk result (λ texts. AllPairs (λ a b. slice_cmp nat_cmp a b ≡ Less) (texts_of texts.items)) }
     ensures short { IfOk result (λ texts. All (λ text. length (string_bytes text) ≤ 96) texts.items) }
@@ -35,7 +39,12 @@ pub fn obsolete_texts(alloc: Global, dir: &HashDir, is_primary: bool) -> Result<
 /// Removes what is obsolete in a folder at a primary, or at a handoff: these names, ascending. There is room for the changes.
 ///
 /// It takes no memory, and does nothing where nothing is obsolete.
-pub fn purge<D: Disk>(disk: &mut D, folder: &str, is_primary: bool, obsolete: &[String]) -> Result<(), DiskRefusal>
+pub fn purge<D: Disk>(
+    disk: &mut D,
+    folder: &str,
+    is_primary: bool,
+    obsolete: &[String],
+) -> Result<(), DiskRefusal>
     requires folder { length folder.now ≤ 64 }
     requires obsolete { IfTold (D.seen disk.old).told (λ state. AreObsolete is_primary (names_of (files_of (state.folder folder.now))) (texts_of obsolete.now)) }
     requires short { All (λ name. length (string_bytes name) ≤ 96) obsolete.now }
@@ -51,7 +60,12 @@ pub fn purge<D: Disk>(disk: &mut D, folder: &str, is_primary: bool, obsolete: &[
 }
 
 // The calls of a purge.
-pub(crate) fn purge_by_calls<D: Disk>(disk: &mut D, folder: &str, is_primary: bool, obsolete: &[String]) -> Result<(), DiskRefusal>
+pub(crate) fn purge_by_calls<D: Disk>(
+    disk: &mut D,
+    folder: &str,
+    is_primary: bool,
+    obsolete: &[String],
+) -> Result<(), DiskRefusal>
     requires folder { length folder.now ≤ 64 }
     requires obsolete { IfTold (D.seen disk.old).told (λ state. AreObsolete is_primary (names_of (files_of (state.folder folder.now))) (texts_of obsolete.now)) }
     requires short { All (λ name. length (string_bytes name) ≤ 96) obsolete.now }
@@ -67,7 +81,12 @@ pub(crate) fn purge_by_calls<D: Disk>(disk: &mut D, folder: &str, is_primary: bo
 }
 
 // Removes these files, one after the other.
-fn remove_all<D: Disk>(disk: &mut D, folder: &str, is_primary: bool, obsolete: &[String]) -> Result<(), DiskRefusal>
+fn remove_all<D: Disk>(
+    disk: &mut D,
+    folder: &str,
+    is_primary: bool,
+    obsolete: &[String],
+) -> Result<(), DiskRefusal>
     requires folder { length folder.now ≤ 64 }
     requires obsolete { IfTold (D.seen disk.old).told (λ state. AreObsolete is_primary (names_of (files_of (state.folder folder.now))) (texts_of obsolete.now)) }
     requires short { All (λ name. length (string_bytes name) ≤ 96) obsolete.now }

@@ -52,7 +52,12 @@ pub fn store<D: Disk>(
 }
 
 /// Writes a tombstone, a file without bytes, where it is not there yet. Memory is taken before anything is changed.
-pub fn bury<D: Disk>(alloc: Global, disk: &mut D, folder: &str, stamp: Stamp) -> Result<(), DiskRefusal>
+pub fn bury<D: Disk>(
+    alloc: Global,
+    disk: &mut D,
+    folder: &str,
+    stamp: Stamp,
+) -> Result<(), DiskRefusal>
     requires folder { length folder.now ≤ 64 }
     requires new { IfTold (D.seen disk.old).told (λ state. LacksFile state folder.now (file_name_text (Tombstone stamp))) }
     ensures runs { Runs D.seen D.left_since (store_calls folder.now (file_name_text (Tombstone stamp)) []) (refusal_of result) disk.old disk.new }

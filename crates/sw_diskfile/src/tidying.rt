@@ -20,7 +20,12 @@ use sw_disk::{Disk, DiskRefusal};
 /// handoff. It begins from any folder, also one that a crash or a failure left.
 ///
 /// Memory is taken before anything is changed.
-pub fn tidy<D: Disk>(alloc: Global, disk: &mut D, folder: &str, is_primary: bool) -> Result<(), DiskRefusal>
+pub fn tidy<D: Disk>(
+    alloc: Global,
+    disk: &mut D,
+    folder: &str,
+    is_primary: bool,
+) -> Result<(), DiskRefusal>
     requires { length folder.now ≤ 64 }
     ensures runs { (obsolete : List (List ℕ)) × Runs D.seen D.left_since (tidy_calls folder.now obsolete) (refusal_of result) disk.old disk.new }
     ensures exact { WithObsolete (D.seen disk.old).told folder.now is_primary (λ obsolete. Runs D.seen D.left_since (tidy_calls folder.now obsolete) (refusal_of result) disk.old disk.new) }
@@ -35,7 +40,12 @@ pub fn tidy<D: Disk>(alloc: Global, disk: &mut D, folder: &str, is_primary: bool
 }
 
 // The calls of tidying: it is refused before the first removal, or removes the obsolete names.
-fn tidy_by_calls<D: Disk>(alloc: Global, disk: &mut D, folder: &str, is_primary: bool) -> Result<(), DiskRefusal>
+fn tidy_by_calls<D: Disk>(
+    alloc: Global,
+    disk: &mut D,
+    folder: &str,
+    is_primary: bool,
+) -> Result<(), DiskRefusal>
     requires { length folder.now ≤ 64 }
     ensures runs { Tidies D.seen D.left_since folder.now is_primary (refusal_of result) disk.old disk.new }
     ensures never_full { IfErr result IsNotFull }
@@ -47,7 +57,12 @@ fn tidy_by_calls<D: Disk>(alloc: Global, disk: &mut D, folder: &str, is_primary:
 }
 
 // Makes a folder stable, and removes what is obsolete in it.
-fn settle_and_purge<D: Disk>(disk: &mut D, folder: &str, is_primary: bool, obsolete: &[String]) -> Result<(), DiskRefusal>
+fn settle_and_purge<D: Disk>(
+    disk: &mut D,
+    folder: &str,
+    is_primary: bool,
+    obsolete: &[String],
+) -> Result<(), DiskRefusal>
     requires folder { length folder.now ≤ 64 }
     requires obsolete { IfTold (D.seen disk.old).told (λ state. AreObsolete is_primary (names_of (files_of (state.folder folder.now))) (texts_of obsolete.now)) }
     requires short { All (λ name. length (string_bytes name) ≤ 96) obsolete.now }

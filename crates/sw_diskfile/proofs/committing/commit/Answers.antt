@@ -1,14 +1,14 @@
-use Rattle.std.proofs.Common.{Bool, ℕ, ◌≤◌, false, true, [], ◌∷◌, IsSome, List, sym, subst, rules}
+use Rattle.std.proofs.Common.{Bool, ◌≤◌, false, true, [], ◌∷◌, IsSome, sym, subst, rules}
 use Rattle.sw_types.specs.Stamp.{greatest_stamp}
 use Rattle.sw_disk.specs.Answers.{names_of}
 use Rattle.sw_disk.specs.Calls.{RenameFile}
-use Rattle.sw_disk.specs.Folder.{Folder, Rename, content_at, files_of}
+use Rattle.sw_disk.specs.Folder.{Rename, content_at, files_of}
 use Rattle.sw_disk.specs.Runs.{Runs, refusal_of}
-use Rattle.sw_hashpath.specs.FileName.{IsFileName, file_name_text}
+use Rattle.sw_hashpath.specs.FileName.{file_name_text}
 use Rattle.sw_hashpath.specs.declared.file_name.FileName.TheVariants.{Data}
 use Rattle.sw_hashdir.specs.Directory.{IsDirectory}
 use Rattle.sw_diskfile.specs.Calls.{commit_calls}
-use Rattle.sw_diskfile.specs.Changes.{Changes, HasNonePending, IfBothTold}
+use Rattle.sw_diskfile.specs.Changes.{HasNonePending, IfBothTold}
 use Rattle.sw_diskfile.specs.Names.{MakesName}
 use Rattle.sw_diskfile.proofs.CallLists.{makes_commit}
 use Rattle.sw_diskfile.proofs.Directories.{durable_directory}

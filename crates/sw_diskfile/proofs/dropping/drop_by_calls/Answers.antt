@@ -1,4 +1,4 @@
-use Rattle.std.proofs.Common.{[], ◌∷◌, ◌∙◌}
+use Rattle.std.proofs.Common.{[], ◌∷◌}
 use Rattle.std.proofs.lemmas.Result.{err_from_is_err_and}
 use Rattle.sw_disk.specs.Calls.{RemoveFile, SyncDir}
 use Rattle.sw_disk.specs.declared.refusal.DiskRefusal.TheVariants.{NoMemory}

@@ -1,4 +1,4 @@
-use Rattle.std.proofs.Common.{ℕ, ◌≤◌, [], ◌∷◌, sym, subst, rules}
+use Rattle.std.proofs.Common.{◌≤◌, [], ◌∷◌, sym, subst, rules}
 use Rattle.std.specs.Prelude.{⊤}
 use Rattle.sw_types.specs.Stamp.{greatest_stamp}
 use Rattle.sw_disk.specs.Answers.{names_of}

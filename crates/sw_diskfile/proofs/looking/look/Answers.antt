@@ -1,4 +1,4 @@
-use Rattle.std.proofs.Common.{List, [], ◌∷◌, None, Some, Global, String, refl, subst}
+use Rattle.std.proofs.Common.{List, None, Some, Global, String, refl, subst}
 use Rattle.sw_disk.specs.Answers.{IsListing, names_of, texts_of}
 use Rattle.sw_disk.specs.Calls.{ListNames}
 use Rattle.sw_disk.specs.Folder.{files_of}

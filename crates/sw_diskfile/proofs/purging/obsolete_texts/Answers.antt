@@ -1,8 +1,7 @@
-use Rattle.std.proofs.Common.{◌≡◌, ◌+◌, ℕ, List, [], ◌∷◌, ◌++◌, get_or, map, string_bytes, take, sym, ap, ◌∙◌, arith}
+use Rattle.std.proofs.Common.{ℕ, List, [], ◌∷◌, ◌++◌, get_or, map, string_bytes, take, sym, ap, ◌∙◌, arith}
 use Rattle.std.proofs.lemmas.List.{map_push, take_all, take_more}
 use Rattle.sw_disk.specs.Answers.{texts_of}
 use Rattle.sw_hashpath.specs.FileName.{file_name_text}
-use Rattle.sw_hashpath.specs.declared.file_name.FileName.{FileName}
 use Rattle.sw_diskfile.proofs.ObsoleteTexts.{printed_all, printed_ascend, printed_short}
 use Rattle.sw_diskfile.proofs.purging.obsolete_texts.Goals as goal
 
@@ -16,7 +15,6 @@ loop-name-preserved c =
     ∙ ap (λ (t : List ℕ). map file_name_text (take i names) ++ t ∷ []) (c.in_ok-print.ensures ∙ ap file_name_text c.name-item.is)
     ∙ sym (map_push file_name_text (take i names) (get_or names i name))
     ∙ ap (map file_name_text) (sym (take_more names i name c.loop-name-test.true))
-
 
 pub returns-clause-all : goal.returns-clause-all
 returns-clause-all c =

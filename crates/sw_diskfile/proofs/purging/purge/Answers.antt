@@ -1,6 +1,6 @@
-use Rattle.std.proofs.Common.{◌≡◌, ◌≢◌, ℕ, List, [], ◌∷◌, ◌++◌, None, map, sym, ap, subst, ◌∙◌}
+use Rattle.std.proofs.Common.{◌≢◌, List, [], None, map, subst}
 use Rattle.sw_disk.specs.Answers.{names_of, texts_of}
-use Rattle.sw_disk.specs.Calls.{Call, RemoveFile, SyncDir}
+use Rattle.sw_disk.specs.Calls.{Call}
 use Rattle.sw_disk.specs.Folder.{Remove, files_of}
 use Rattle.sw_disk.specs.Runs.{Runs, refusal_of}
 use Rattle.sw_diskfile.specs.Calls.{purge_calls}

@@ -1,4 +1,4 @@
-use Rattle.std.proofs.Common.{ℕ, arith}
+use Rattle.std.proofs.Common.{arith}
 use Rattle.sw_diskfile.proofs.Outcomes.{not_full}
 use Rattle.sw_diskfile.proofs.storing.bury.Goals as goal
 

@@ -1,12 +1,11 @@
-use Rattle.std.proofs.Common.{◌≡◌, ◌≢◌, ℕ, [], ◌∷◌, List, Option, None, Some, Err, Result, IsErrOf, length, subst, sym, ap, ◌∙◌}
+use Rattle.std.proofs.Common.{◌≡◌, ℕ, [], ◌∷◌, List, Option, None, Err, IsErrOf, length, subst, sym, ap, ◌∙◌}
 use Rattle.std.proofs.lemmas.Result.{err_from_is_err_and}
 use Rattle.sw_disk.specs.Answers.{IsFull}
-use Rattle.sw_disk.specs.Calls.{Call, PublishTmp, SyncDir, SyncTmp, WriteTmp}
+use Rattle.sw_disk.specs.Calls.{PublishTmp, SyncDir, SyncTmp, WriteTmp}
 use Rattle.sw_disk.specs.Folder.{File, content_at, files_of}
 use Rattle.sw_disk.specs.Runs.{IfTold, Runs, refusal_of}
 use Rattle.sw_disk.specs.State.{State}
-use Rattle.sw_disk.specs.declared.refusal.DiskRefusal.{DiskRefusal}
-use Rattle.sw_disk.specs.declared.refusal.DiskRefusal.TheVariants.{Failed, Full, NoMemory}
+use Rattle.sw_disk.specs.declared.refusal.DiskRefusal.TheVariants.{Full, NoMemory}
 use Rattle.sw_hashpath.specs.FileName.{file_name_text}
 use Rattle.sw_disk.proofs.Chains.{runs_after, runs_more, runs_stop}
 use Rattle.sw_diskfile.specs.Calls.{store_calls}

@@ -7,7 +7,7 @@ use Rattle.sw_disk.specs.Runs.{Runs, refusal_of}
 use Rattle.sw_hashpath.specs.FileName.{file_name_text}
 use Rattle.sw_hashdir.specs.Directory.{IsDirectory}
 use Rattle.sw_diskfile.specs.Calls.{store_calls}
-use Rattle.sw_diskfile.specs.Changes.{Changes, HasNonePending, IfBothTold, new_file}
+use Rattle.sw_diskfile.specs.Changes.{HasNonePending, IfBothTold, new_file}
 use Rattle.sw_diskfile.specs.Names.{MakesName}
 use Rattle.sw_diskfile.proofs.CallLists.{makes_store}
 use Rattle.sw_diskfile.proofs.Directories.{made_directory}

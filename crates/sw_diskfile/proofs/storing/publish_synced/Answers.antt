@@ -1,4 +1,4 @@
-use Rattle.std.proofs.Common.{[], ◌∷◌, ℕ, List, None, ◌≡◌}
+use Rattle.std.proofs.Common.{[], ◌∷◌, List, None, ◌≡◌}
 use Rattle.std.proofs.lemmas.Result.{err_from_is_err_and}
 use Rattle.sw_disk.specs.Calls.{PublishTmp, SyncDir, SyncTmp}
 use Rattle.sw_disk.specs.Folder.{File, content_at}

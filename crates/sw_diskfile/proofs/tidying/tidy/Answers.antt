@@ -1,4 +1,3 @@
-use Rattle.std.proofs.Common.{ℕ, List, Err, IsErrOf, None, Some, ap}
 use Rattle.sw_disk.specs.Runs.{refusal_of}
 use Rattle.sw_disk.specs.declared.refusal.DiskRefusal.TheVariants.{NoMemory}
 use Rattle.sw_diskfile.specs.Changes.{HasNonePending, IfBothTold}

@@ -1,4 +1,4 @@
-use Rattle.std.proofs.Common.{◌≡◌, ℕ, List, [], ◌∷◌, inl, inr, None, Some, Option, Global, String, refl, sym, ap, subst}
+use Rattle.std.proofs.Common.{List, [], ◌∷◌, inl, inr, Some, Option, Global, String, refl, sym, subst}
 use Rattle.std.proofs.lemmas.Result.{err_from_is_err_and}
 use Rattle.sw_disk.specs.Answers.{names_of, texts_of}
 use Rattle.sw_disk.specs.Calls.{ListNames, SyncDir}
@@ -27,18 +27,24 @@ returns-in_err-obsolete-clause-runs g c =
     let p = err_from_is_err_and c.from_residual-in_err-obsolete.result c.from_residual-in_err-obsolete.ensures.1 in
     let folder = c.args.folder.now in
     let looked = look_done g.D.Disk.seen g.D.Disk.left_since folder c.args.disk.now c.look.new.disk c.in_ok-dir.ensures.runs in
-    rw (p.1, p.2) (inl (NoMemory, refl,
-    runs_more g.D.Disk.seen g.D.Disk.left_since (ListNames folder ∷ []) (SyncDir folder ∷ []) (Some NoMemory) c.args.disk.now c.look.new.disk c.look.new.disk looked
-    (unbegun g.D.Disk.seen g.D.Disk.left_since (SyncDir folder) [] NoMemory c.look.new.disk (λ failed. cc))))
+    rw (p.1, p.2) (inl (
+      NoMemory,
+      refl,
+      runs_more g.D.Disk.seen g.D.Disk.left_since (ListNames folder ∷ []) (SyncDir folder ∷ []) (Some NoMemory) c.args.disk.now c.look.new.disk c.look.new.disk looked
+          (unbegun g.D.Disk.seen g.D.Disk.left_since (SyncDir folder) [] NoMemory c.look.new.disk (λ failed. cc)),
+    ))
 
 pub returns-in_err-ready-clause-runs : goal.returns-in_err-ready-clause-runs
 returns-in_err-ready-clause-runs g c =
     let p = err_from_is_err_and c.from_residual-in_err-ready.result c.from_residual-in_err-ready.ensures.1 in
     let folder = c.args.folder.now in
     let looked = look_done g.D.Disk.seen g.D.Disk.left_since folder c.args.disk.now c.look.new.disk c.in_ok-dir.ensures.runs in
-    rw (p.1, p.2, c.in_err-ready.ensures.cause) (inl (NoMemory, refl,
-    runs_more g.D.Disk.seen g.D.Disk.left_since (ListNames folder ∷ []) (SyncDir folder ∷ []) (Some NoMemory) c.args.disk.now c.look.new.disk c.ready.new.self looked
-    (refused_early g.D.Disk.seen g.D.Disk.left_since (SyncDir folder) [] NoMemory c.ready.new.self (λ failed. cc) c.look.new.disk c.in_err-ready.ensures.untouched)))
+    rw (p.1, p.2, c.in_err-ready.ensures.cause) (inl (
+      NoMemory,
+      refl,
+      runs_more g.D.Disk.seen g.D.Disk.left_since (ListNames folder ∷ []) (SyncDir folder ∷ []) (Some NoMemory) c.args.disk.now c.look.new.disk c.ready.new.self looked
+          (refused_early g.D.Disk.seen g.D.Disk.left_since (SyncDir folder) [] NoMemory c.ready.new.self (λ failed. cc) c.look.new.disk c.in_err-ready.ensures.untouched),
+    ))
 
 pub settle_and_purge-requires-clause-obsolete : goal.settle_and_purge-requires-clause-obsolete
 settle_and_purge-requires-clause-obsolete g c =
@@ -60,6 +66,10 @@ returns-clause-runs g c =
     (λ s directory. record { names = c.in_ok-dir.dir; directory = directory; all = c.in_ok-obsolete.ensures.all; ascend = c.in_ok-obsolete.ensures.ascend }) in
     let looked = look_done g.D.Disk.seen g.D.Disk.left_since folder c.args.disk.now c.look.new.disk c.in_ok-dir.ensures.runs in
     let purged = subst (λ (l : List (String Global)). Runs g.D.Disk.seen g.D.Disk.left_since (SyncDir folder ∷ purge_calls folder (texts_of l)) (refusal_of c.settle_and_purge.result) c.ready.new.self c.settle_and_purge.new.disk) c.deref.ensures.value c.settle_and_purge.ensures.runs in
-    inr (texts, first, (λ reason is. only_fails c.settle_and_purge.result reason c.settle_and_purge.ensures.cause is),
-    runs_more g.D.Disk.seen g.D.Disk.left_since (ListNames folder ∷ []) (SyncDir folder ∷ purge_calls folder texts) (refusal_of c.settle_and_purge.result) c.args.disk.now c.look.new.disk c.settle_and_purge.new.disk looked
-    (runs_after g.D.Disk.seen g.D.Disk.left_since (SyncDir folder ∷ purge_calls folder texts) (refusal_of c.settle_and_purge.result) c.look.new.disk c.ready.new.self c.settle_and_purge.new.disk c.in_ok-ready.ensures.untouched purged))
+    inr (
+      texts,
+      first,
+      (λ reason is. only_fails c.settle_and_purge.result reason c.settle_and_purge.ensures.cause is),
+      runs_more g.D.Disk.seen g.D.Disk.left_since (ListNames folder ∷ []) (SyncDir folder ∷ purge_calls folder texts) (refusal_of c.settle_and_purge.result) c.args.disk.now c.look.new.disk c.settle_and_purge.new.disk looked
+          (runs_after g.D.Disk.seen g.D.Disk.left_since (SyncDir folder ∷ purge_calls folder texts) (refusal_of c.settle_and_purge.result) c.look.new.disk c.ready.new.self c.settle_and_purge.new.disk c.in_ok-ready.ensures.untouched purged),
+    )
