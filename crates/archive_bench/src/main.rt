@@ -14,10 +14,8 @@ use crate::cost::print_header;
 use crate::measure::measure;
 use crate::trial::try_code;
 use anyhow::Result;
-use measuring::{Command, command_of};
-use std::env;
+use measuring::{Command, read_command};
 use std::process::ExitCode;
-use std::rt::Env;
 use std::time::CpuClock;
 use sw_cauchy::Code;
 
@@ -50,13 +48,4 @@ fn run(rt: &(impl Print + CpuClock + AllocGlobal), command: Command) -> Result<(
         }
     }
     Ok(())
-}
-
-// The command of the command line: none where the line is faulty, as one is whose words are not UTF-8.
-fn read_command(rt: &(impl Env + AllocGlobal)) -> Result<Option<Command>> {
-    let Ok(words) = env::args(rt) else {
-        return Ok(None);
-    };
-    let words: Vec<String> = words.collect(rt.alloc())?;
-    Ok(command_of(&words))
 }

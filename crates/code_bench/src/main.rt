@@ -9,10 +9,8 @@ mod trial;
 use crate::measure::measure;
 use crate::trial::try_code;
 use anyhow::Result;
-use measuring::{Command, command_of};
-use std::env;
+use measuring::{Command, read_command};
 use std::process::ExitCode;
-use std::rt::Env;
 use sw_cauchy::Code;
 
 fn main(rt: HostRuntime) -> Result<ExitCode> {
@@ -27,13 +25,4 @@ fn main(rt: HostRuntime) -> Result<ExitCode> {
         }
     }
     Ok(ExitCode::SUCCESS)
-}
-
-// The command of the command line: none where the line is faulty, as one is whose words are not UTF-8.
-fn read_command(rt: &(impl Env + AllocGlobal)) -> Result<Option<Command>> {
-    let Ok(words) = env::args(rt) else {
-        return Ok(None);
-    };
-    let words: Vec<String> = words.collect(rt.alloc())?;
-    Ok(command_of(&words))
 }

@@ -3,6 +3,9 @@
 ghost use Rattle.std.specs.Prelude.{◌≡◌, ◌<◌, ◌^◌, ℕ, [], ◌∷◌, Some, IfSome, map, drop, string_bytes};
 ghost use Rattle.measuring.specs.Command.{measure_words, words_of};
 
+use anyhow::Result;
+use std::env;
+use std::rt::Env;
 use sw_types::read_decimal;
 
 /// A command: with no words to try what is measured, with `measure SECONDS` to measure them.
@@ -27,4 +30,13 @@ pub fn command_of(words: &[String]) -> Option<Command>
         return Some(Command::Measure { seconds });
     }
     None
+}
+
+/// The command of the command line: none where the line is faulty, as one is whose words are not UTF-8.
+pub fn read_command(rt: &(impl Env + AllocGlobal)) -> Result<Option<Command>> {
+    let Ok(words) = env::args(rt) else {
+        return Ok(None);
+    };
+    let words: Vec<String> = words.collect(rt.alloc())?;
+    Ok(command_of(&words))
 }

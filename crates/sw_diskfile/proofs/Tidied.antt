@@ -4,7 +4,7 @@ use Rattle.std.specs.Prelude.{⊤}
 use Rattle.sw_disk.specs.Answers.{names_of}
 use Rattle.sw_disk.specs.Calls.{Call, ListNames, SyncDir}
 use Rattle.sw_disk.specs.Folder.{File, IsImage, Remove, files_of}
-use Rattle.sw_disk.specs.Runs.{IfTold, Past, Runs, Seen}
+use Rattle.sw_disk.specs.Runs.{IfTold, IsUntouched, Past, Runs, Seen}
 use Rattle.sw_disk.specs.State.{State}
 use Rattle.sw_disk.specs.declared.refusal.DiskRefusal.{DiskRefusal}
 use Rattle.sw_disk.specs.declared.refusal.DiskRefusal.TheVariants.{Failed}
@@ -16,7 +16,7 @@ use Rattle.sw_diskfile.specs.Normal.{AreObsolete, IsTidied, KeepsNormal, Tidies,
 use Rattle.sw_diskfile.proofs.Begun.{unbegun}
 use Rattle.sw_diskfile.proofs.CallLists.{makes_none, makes_tidy, tidy_ends}
 use Rattle.sw_diskfile.proofs.Keeping.{keeps, keeps_none, keeps_removed, tidied}
-use Rattle.sw_diskfile.proofs.Kept.{always}
+use Rattle.sw_diskfile.proofs.Kept.{always, quiet_keeps}
 use Rattle.sw_diskfile.proofs.Normal.{one_list}
 use Rattle.sw_diskfile.proofs.Outcomes.{all_stand, changes_run, quiet_before, stable_run}
 
@@ -32,6 +32,13 @@ module _ {D : Type 0} (seen : D → Seen) (left_since : D → Past) (folder : Li
   look_refused reason (inr want) =
       let is = want.0 in
       runs_more seen left_since (ListNames folder ∷ []) (SyncDir folder ∷ []) (Some reason) a b b want.1 (unbegun seen left_since (SyncDir folder) [] reason b (λ failed. cc))
+
+-- what a folder's files had before the look they have where there is room for changes, too
+pub looked_keeps : {D : Type 0} (seen : D → Seen) (left_since : D → Past) (folder : List ℕ) (a b c : D) (P : List File → Type 0) → RunsUnlessMemory seen left_since (ListNames folder ∷ []) None a b → IsUntouched seen left_since b c
+    → IfTold (seen a).told (λ s. P (files_of (s.folder folder))) → IfTold (seen c).told (λ s. P (files_of (s.folder folder)))
+looked_keeps seen left_since folder a b c P looked same has =
+    subst (λ (o : Option State). IfTold o (λ s. P (files_of (s.folder folder)))) (sym same.told)
+    (quiet_keeps seen left_since a b (ListNames folder ∷ []) folder P tt (look_done seen left_since folder a b looked) has)
 
 -- ---- all of it
 

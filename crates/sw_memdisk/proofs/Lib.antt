@@ -5,7 +5,7 @@ mod Crashed
 mod Disks
 mod Done
 mod Files
-mod FoundFiles
+pub mod FoundFiles
 mod Keeping
 mod Lookups
 mod Moments

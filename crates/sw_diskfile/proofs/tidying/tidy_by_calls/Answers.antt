@@ -4,16 +4,14 @@ use Rattle.sw_disk.specs.Answers.{names_of, texts_of}
 use Rattle.sw_disk.specs.Calls.{ListNames, SyncDir}
 use Rattle.sw_disk.specs.Folder.{File, files_of}
 use Rattle.sw_disk.specs.Runs.{IfTold, Runs, refusal_of}
-use Rattle.sw_disk.specs.State.{State}
 use Rattle.sw_disk.specs.declared.refusal.DiskRefusal.TheVariants.{NoMemory}
 use Rattle.sw_disk.proofs.Chains.{runs_after, runs_more, told_map}
 use Rattle.sw_diskfile.specs.Calls.{purge_calls}
 use Rattle.sw_diskfile.specs.Names.{IsDirectoryOf}
 use Rattle.sw_diskfile.specs.Normal.{AreObsolete}
 use Rattle.sw_diskfile.proofs.Begun.{refused_early, unbegun}
-use Rattle.sw_diskfile.proofs.Kept.{quiet_keeps}
 use Rattle.sw_diskfile.proofs.Outcomes.{only_fails}
-use Rattle.sw_diskfile.proofs.Tidied.{look_done, look_refused}
+use Rattle.sw_diskfile.proofs.Tidied.{look_done, look_refused, looked_keeps}
 use Rattle.sw_diskfile.proofs.tidying.tidy_by_calls.Goals as goal
 
 pub returns-in_err-dir-clause-runs : goal.returns-in_err-dir-clause-runs
@@ -53,9 +51,7 @@ settle_and_purge-requires-clause-obsolete g c =
     let P = λ (files : List File). AreObsolete c.args.is_primary (names_of files) texts in
     let first = told_map (g.D.Disk.seen c.args.disk.now).told (λ s. IsDirectoryOf (s.folder folder) c.in_ok-dir.dir) (λ s. P (files_of (s.folder folder))) c.in_ok-dir.ensures.directory
     (λ s directory. record { names = c.in_ok-dir.dir; directory = directory; all = c.in_ok-obsolete.ensures.all; ascend = c.in_ok-obsolete.ensures.ascend }) in
-    let looked = look_done g.D.Disk.seen g.D.Disk.left_since folder c.args.disk.now c.look.new.disk c.in_ok-dir.ensures.runs in
-    let listed = quiet_keeps g.D.Disk.seen g.D.Disk.left_since c.args.disk.now c.look.new.disk (ListNames folder ∷ []) folder P tt looked first in
-    let ready = subst (λ (o : Option State). IfTold o (λ s. P (files_of (s.folder folder)))) (sym c.in_ok-ready.ensures.untouched.told) listed in
+    let ready = looked_keeps g.D.Disk.seen g.D.Disk.left_since folder c.args.disk.now c.look.new.disk c.ready.new.self P c.in_ok-dir.ensures.runs c.in_ok-ready.ensures.untouched first in
     subst (λ (names : List (String Global)). IfTold (g.D.Disk.seen c.ready.new.self).told (λ s. AreObsolete c.args.is_primary (names_of (files_of (s.folder folder))) (texts_of names))) (sym c.deref.ensures.value) ready
 
 pub returns-clause-runs : goal.returns-clause-runs
