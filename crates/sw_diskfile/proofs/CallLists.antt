@@ -1,11 +1,12 @@
 -- Which changes the lists of calls make.
-use Rattle.std.proofs.Common.{◌≡◌, inl, inr, ℕ, Bool, cond, List, [], ◌∷◌, ◌++◌, map, Option, refl, ◌∙◌, ap}
+use Rattle.std.proofs.Common.{◌≡◌, inl, inr, ℕ, Bool, cond, List, [], ◌∷◌, ◌++◌, map, Option, refl, ◌∙◌, ap, ◌≢◌, false}
 use Rattle.sw_disk.specs.Calls.{Call, ListNames, WriteTmp, SyncTmp, PublishTmp, RenameFile, RemoveFile, SyncDir}
-use Rattle.sw_disk.specs.Folder.{Change, Rename, Remove, Content}
+use Rattle.sw_disk.specs.Folder.{Change, Rename, Remove, Content, same_name}
 use Rattle.sw_disk.proofs.Images.{same_name-refl}
 use Rattle.sw_diskfile.specs.Calls.{store_calls, commit_calls, drop_calls, purge_calls, tidy_calls}
 use Rattle.sw_diskfile.specs.Changes.{new_file}
 use Rattle.sw_diskfile.proofs.Changed.{Makes}
+use Rattle.sw_diskfile.proofs.Directories.{other_name}
 use Rattle.sw_diskfile.proofs.Steps.{changes_by}
 use Rattle.sw_diskfile.proofs.Synced.{AreSyncedChanges}
 
@@ -59,3 +60,30 @@ module _ (folder : List ℕ) where
   -- none before the first removal
   pub makes_none : Makes folder (ListNames folder ∷ SyncDir folder ∷ []) []
   makes_none = record { made = λ temporary. refl; synced = tt; ends = inl refl }
+
+-- they change no other folder
+module _ (folder other : List ℕ) (differs : other ≢ folder) where
+  alone : same_name other folder ≡ false
+  alone = other_name other folder differs
+
+  pub store_alone : (name bytes : List ℕ) (temporary : Option Content) → changes_by other (store_calls folder name bytes) temporary ≡ []
+  store_alone name bytes temporary = rw alone refl
+
+  pub commit_alone : (plain durable : List ℕ) (temporary : Option Content) → changes_by other (commit_calls folder plain durable) temporary ≡ []
+  commit_alone plain durable temporary = rw alone refl
+
+  pub drop_alone : (name : List ℕ) (temporary : Option Content) → changes_by other (drop_calls folder name) temporary ≡ []
+  drop_alone name temporary = rw alone refl
+
+  removals_alone : (names : List (List ℕ)) (temporary : Option Content) → changes_by other (map (RemoveFile folder) names ++ SyncDir folder ∷ []) temporary ≡ []
+  removals_alone [] temporary = refl
+  removals_alone (name ∷ names) temporary =
+      ap (λ (b : Bool). cond b (Remove name ∷ []) [] ++ changes_by other (map (RemoveFile folder) names ++ SyncDir folder ∷ []) temporary) alone ∙ removals_alone names temporary
+
+  pub purge_alone : (names : List (List ℕ)) (temporary : Option Content) → changes_by other (purge_calls folder names) temporary ≡ []
+  purge_alone [] temporary = refl
+  purge_alone (name ∷ names) temporary = removals_alone (name ∷ names) temporary
+
+  -- a look and a sync change none, whatever follows
+  pub tidy_alone : (names : List (List ℕ)) (temporary : Option Content) → changes_by other (tidy_calls folder names) temporary ≡ []
+  tidy_alone names temporary = purge_alone names temporary

@@ -25,7 +25,7 @@ same_or_other a b = told (same_name a b) refl
     told true e = inl (e, same_text a b (sym e))
     told false e = inr (e, other_text a b (sym e))
 
-other_name : (a b : List ℕ) → a ≢ b → same_name a b ≡ false
+pub other_name : (a b : List ℕ) → a ≢ b → same_name a b ≡ false
 other_name a b other = ⊎_elim (λ same. absurd (other same.1)) (λ differ. differ.0) (same_or_other a b)
 
 pub passes_if_other : (a b : List ℕ) → (not (same_name a b) ≡ true) ↔ (a ≢ b)

@@ -1,21 +1,23 @@
 -- What a run of calls that make changes of a folder leaves there.
-use Rattle.std.proofs.Common.{◌≡◌, ◌≢◌, ◌⊎◌, inl, inr, ⊎_elim, ℕ, ◌≤◌, List, [], ◌∷◌, ◌++◌, take, Option, Some, None, Result, Ok, Err, IfErr, IsErrOf, OnOk, refl, sym, ◌∙◌, ap, subst, arith}
+use Rattle.std.proofs.Common.{◌≡◌, ◌≢◌, ◌⊎◌, inl, inr, ⊎_elim, ℕ, ◌≤◌, List, [], ◌∷◌, ◌++◌, take, Option, Some, None, Result, Ok, Err, IfErr, IsErrOf, OnOk, refl, sym, ◌∙◌, ap, subst, arith, zero, suc, true≢false, IsSome}
 use Rattle.std.specs.Prelude.{⊤}
 use Rattle.std.proofs.lemmas.List.{append-nil}
 use Rattle.sw_disk.specs.Answers.{IsNotFull}
 use Rattle.sw_disk.specs.Calls.{Call, SyncDir, Step, calls_in}
-use Rattle.sw_disk.specs.Folder.{Change, Content, File, Folder, IsImage, all_changed, files_of}
+use Rattle.sw_disk.specs.Folder.{Change, Content, File, Folder, IsImage, Survive, all_changed, files_of}
 use Rattle.sw_disk.specs.Runs.{IfTold, IsWithin, Past, Runs, Seen, StopsTold, refusal_of}
 use Rattle.sw_disk.specs.State.{State, run}
 use Rattle.sw_disk.specs.declared.refusal.DiskRefusal.{DiskRefusal}
 use Rattle.sw_disk.specs.declared.refusal.DiskRefusal.TheVariants.{Failed, Full, NoMemory}
 use Rattle.sw_disk.proofs.Chains.{steps_of}
+use Rattle.sw_disk.proofs.Images.{image_of_all}
 use Rattle.sw_disk.proofs.Settling.{carry}
 use Rattle.sw_diskfile.proofs.Kept.{always}
-use Rattle.sw_diskfile.specs.Changes.{Changes, HasNonePending, IfBothTold, IsAsBefore, IsFirstPart, IsSettled, Stands, SurvivesPart}
+use Rattle.sw_diskfile.specs.Changes.{AreSynced, Changes, IfBothTold, IsAsBefore, IsMadeStable, Keeps, IsFirstPart, IsSettled, Stands, SurvivesPart}
+use Rattle.sw_diskfile.specs.Names.{RunsUnlessMemory}
 use Rattle.sw_diskfile.proofs.Changed.{Makes, all_files, as_before, done_files, image_stable, part_survives, quiet_part, run_pending}
 use Rattle.sw_diskfile.proofs.Steps.{changes_by, run_images}
-use Rattle.sw_diskfile.proofs.Synced.{AreSynced, all_synced, settled_synced, survive_exactly, take_synced}
+use Rattle.sw_diskfile.proofs.Synced.{all_synced, settled_synced, survive_exactly, take_synced}
 
 -- ---- a run that was refused before its first call was done
 
@@ -109,19 +111,46 @@ module _ (folder : List ℕ) where
           (run_images folder steps state w.count image w.left))
           (else t image le left)
 
-      within_told : (told : Option State) → ((image : List File) → old_past moment image → IfTold told (λ s. IsImage (s.folder folder) image))
+      exactly_told : (told : Option State)
           → IfTold told (λ before. (t : ℕ) (image : List File) → t ≤ moment → new_past t image → old_past t image ⊎ SurvivesPart changes (files_of (before.folder folder)) image)
-          → IfTold told (λ before. IsSettled (before.folder folder) → (image : List File) → new_past moment image → IsFirstPart changes (files_of (before.folder folder)) image)
-      within_told None only leaves = tt
-      within_told (Some state) only leaves = λ is_settled image left. ⊎_elim
-          (λ past. (0, is_settled image (only image past)))
-          (λ part. (
+          → IfTold told (λ before. AreSynced (files_of (before.folder folder)) → (t : ℕ) (image : List File) → t ≤ moment → new_past t image → old_past t image ⊎ IsFirstPart changes (files_of (before.folder folder)) image)
+      exactly_told None leaves = tt
+      exactly_told (Some state) leaves = λ synced t image le left. ⊎_elim
+          (λ past. inl past)
+          (λ part. inr (
             part.0,
             survive_exactly (all_changed (take part.0 changes) (files_of (state.folder folder))) image
-                (all_synced (take part.0 changes) (files_of (state.folder folder)) (take_synced part.0 changes makes.synced) (settled_synced (state.folder folder) is_settled))
+                (all_synced (take part.0 changes) (files_of (state.folder folder)) (take_synced part.0 changes makes.synced) synced)
                 part.1,
           ))
-          (leaves moment image (omega arith) left)
+          (leaves t image le left)
+
+      within_told : (told : Option State) → ((image : List File) → old_past moment image → IfTold told (λ s. IsImage (s.folder folder) image))
+          → IfTold told (λ before. AreSynced (files_of (before.folder folder)) → (t : ℕ) (image : List File) → t ≤ moment → new_past t image → old_past t image ⊎ IsFirstPart changes (files_of (before.folder folder)) image)
+          → IfTold told (λ before. IsSettled (before.folder folder) → (image : List File) → new_past moment image → IsFirstPart changes (files_of (before.folder folder)) image)
+      within_told None only exactly = tt
+      within_told (Some state) only exactly = λ is_settled image left. ⊎_elim
+          (λ past. (0, is_settled image (only image past)))
+          (λ part. part)
+          (exactly (settled_synced (state.folder folder) is_settled) moment image (omega arith) left)
+
+    -- bytes that were on the disk still are
+    stand_synced : (refusal : Option DiskRefusal) (before after : Folder) → Stands refusal changes before after → AreSynced (files_of before) → AreSynced (files_of after)
+    stand_synced None before after is synced = subst AreSynced (sym is) (all_synced changes (files_of before) makes.synced synced)
+    stand_synced (Some Failed) before after is synced = subst AreSynced (sym is.1) (all_synced (take is.0 changes) (files_of before) (take_synced is.0 changes makes.synced) synced)
+    stand_synced (Some (Full need free)) before after is synced = subst AreSynced (sym is.files) synced
+    stand_synced (Some NoMemory) before after is synced = subst AreSynced (sym is.files) synced
+
+-- what follows of a folder before and after
+pub both_map : (old new : Seen) (folder : List ℕ) (Has : Folder → Type 0) (P Q : Folder → Folder → Type 0) → ((before after : Folder) → Has before → P before after → Q before after)
+    → IfTold old.told (λ before. Has (before.folder folder)) → IfBothTold old new folder P → IfBothTold old new folder Q
+both_map old new folder Has P Q more there has = map_told old.told new.told there has
+  where
+    map_told : (a b : Option State) → IfTold a (λ before. Has (before.folder folder)) → IfTold a (λ before. IfTold b (λ after. P (before.folder folder) (after.folder folder)))
+        → IfTold a (λ before. IfTold b (λ after. Q (before.folder folder) (after.folder folder)))
+    map_told None b there has = tt
+    map_told (Some s) None there has = tt
+    map_told (Some s) (Some t) there has = more (s.folder folder) (t.folder folder) there has
 
 -- ---- the whole
 
@@ -143,10 +172,14 @@ module _ {D : Type 0} (seen : D → Seen) (left_since : D → Past) (folder : Li
       let new_past = λ (t : ℕ) (image : List File). left_since b t folder image in
       let old_past = λ (t : ℕ) (image : List File). left_since a t folder image in
       let leaves = left_told folder calls changes makes new_past old_past (seen a).moment run.steps run.rest (seen a).told run.split now earlier (λ t image. run.nothing_else t folder image) in
+      let exactly = exactly_told folder calls changes makes new_past old_past (seen a).moment (seen a).told leaves in
+      let stand = stands refusal run early in
       record {
-        stands = stands refusal run early;
+        stands = stand;
+        synced = both_map (seen a) (seen b) folder (λ _. ⊤) (Stands refusal changes) (λ before after. AreSynced (files_of before) → AreSynced (files_of after)) (λ before after _ is. stand_synced folder calls changes makes refusal before after is) (always (seen a).told) stand;
         leaves = leaves;
-        within = within_told folder calls changes makes new_past old_past (seen a).moment (seen a).told only leaves;
+        exactly = exactly;
+        within = within_told folder calls changes makes new_past old_past (seen a).moment (seen a).told only exactly;
         settles = settled_after folder calls changes makes run.steps run.rest refusal (seen a).told (seen b).told run.split run.all run.told;
       }
 
@@ -171,23 +204,21 @@ pub only_fails : (result : Result (Unit {0}) DiskRefusal) (reason : DiskRefusal)
 only_fails (Ok unit) reason cause is = absurd (cc)
 only_fails (Err refusal) reason cause is = cc
 
--- what follows of a folder before and after
-pub both_map : (old new : Seen) (folder : List ℕ) (Has : Folder → Type 0) (P Q : Folder → Folder → Type 0) → ((before after : Folder) → Has before → P before after → Q before after)
-    → IfTold old.told (λ before. Has (before.folder folder)) → IfBothTold old new folder P → IfBothTold old new folder Q
-both_map old new folder Has P Q more there has = map_told old.told new.told there has
-  where
-    map_told : (a b : Option State) → IfTold a (λ before. Has (before.folder folder)) → IfTold a (λ before. IfTold b (λ after. P (before.folder folder) (after.folder folder)))
-        → IfTold a (λ before. IfTold b (λ after. Q (before.folder folder) (after.folder folder)))
-    map_told None b there has = tt
-    map_told (Some s) None there has = tt
-    map_told (Some s) (Some t) there has = more (s.folder folder) (t.folder folder) there has
-
 module _ {D : Type 0} (seen : D → Seen) (left_since : D → Past) (folder : List ℕ) (a b : D) where
   -- its last call made the folder stable
-  pub stable_run : (front : List Call) → Runs seen left_since (front ++ SyncDir folder ∷ []) None a b → HasNonePending (seen b).told folder
-  stable_run front runs =
+  none_pending : (front : List Call) → Runs seen left_since (front ++ SyncDir folder ∷ []) None a b → IfTold (seen b).told (λ after. (after.folder folder).pending ≡ [])
+  none_pending front runs =
       carry seen left_since (front ++ SyncDir folder ∷ []) a b (λ s. ⊤) (λ s. (s.folder folder).pending ≡ []) runs (always (seen a).told)
       (λ steps state is _. run_pending folder steps front state is)
+
+  made_stable : (told later : Option State) → IfTold later (λ after. (after.folder folder).pending ≡ []) → IfTold told (λ before. IfTold later (λ after. AreSynced (files_of (before.folder folder)) → AreSynced (files_of (after.folder folder))))
+      → IfTold told (λ before. IfTold later (λ after. IsMadeStable (before.folder folder) (after.folder folder)))
+  made_stable None later none synced = tt
+  made_stable (Some s) None none synced = tt
+  made_stable (Some s) (Some t) none synced = (none, λ before image w. survive_exactly (files_of (t.folder folder)) image (synced before) (image_stable folder (t.folder folder) image none w))
+
+  pub stable_run : (front : List Call) (changes : List Change) (refusal : Option DiskRefusal) → Runs seen left_since (front ++ SyncDir folder ∷ []) None a b → Changes seen left_since folder changes refusal a b → IfBothTold (seen a) (seen b) folder IsMadeStable
+  stable_run front changes refusal runs done = made_stable (seen a).told (seen b).told (none_pending front runs) done.synced
 
   -- all the changes stand
   pub all_stand : (changes : List Change) (refusal : Option DiskRefusal) (Has : Folder → Type 0) (Q : Folder → Folder → Type 0) → refusal ≡ None → Changes seen left_since folder changes refusal a b
@@ -206,10 +237,43 @@ module _ (folder : List ℕ) where
       subst (λ (o : Option State). IfTold o (λ after. IsAsBefore (state.folder folder) (after.folder folder))) (sym stops.1)
       (subst (λ (s : State). IsAsBefore (state.folder folder) (s.folder folder)) (sym (stops.2.whole refl)) (as_before folder steps state (none state.temporary)))
 
-  -- one call, done or refused
-  pub quiet_call : {D : Type 0} (seen : D → Seen) (left_since : D → Past) (call : Call) (a b : D) → ((temporary : Option Content) → changes_by folder (call ∷ []) temporary ≡ [])
-      → (refusal : Option DiskRefusal) → Runs seen left_since (call ∷ []) refusal a b → IfBothTold (seen a) (seen b) folder IsAsBefore
-  quiet_call seen left_since call a b none None run =
-      let all = steps_of seen left_since (call ∷ []) a b run in
+  -- whether they were all done or not
+  pub quiet_run : {D : Type 0} (seen : D → Seen) (left_since : D → Past) (calls : List Call) (a b : D) → ((temporary : Option Content) → changes_by folder calls temporary ≡ [])
+      → (refusal : Option DiskRefusal) → Runs seen left_since calls refusal a b → IfBothTold (seen a) (seen b) folder IsAsBefore
+  quiet_run seen left_since calls a b none None run =
+      let all = steps_of seen left_since calls a b run in
       quiet_told run.steps run.rest (seen a).told (seen b).told (λ temporary. ap (λ (cs : List Call). changes_by folder cs temporary) (sym all) ∙ none temporary) run.told
-  quiet_call seen left_since call a b none (Some reason) run = refused_before folder seen left_since call reason a b run
+  quiet_run seen left_since calls a b none (Some reason) run = quiet_before folder seen left_since calls reason a b none run
+
+-- ---- the folders that a run leaves alone
+
+module _ {D : Type 0} (seen : D → Seen) (left_since : D → Past) (These : List ℕ → Type 0) (calls : List Call) (quiet : (name : List ℕ) → These name → (temporary : Option Content) → changes_by name calls temporary ≡ []) (a b : D)
+    (now : (name : List ℕ) (image : List File) → IfTold (seen a).told (λ s. IsImage (s.folder name) image → left_since a (seen a).moment name image))
+    (earlier : (since later : ℕ) (name : List ℕ) (image : List File) → since ≤ later → left_since a later name image → left_since a since name image) where
+  nothing : (count : ℕ) (files image : List File) → Survive (all_changed (take count []) files) image → Survive files image
+  nothing zero files image s = s
+  nothing (suc count) files image s = s
+
+  left_alone : (name : List ℕ) (told : Option State) → ((image : List File) → IfTold told (λ s. IsImage (s.folder name) image → left_since a (seen a).moment name image))
+      → IfTold told (λ before. (t : ℕ) (image : List File) → t ≤ (seen a).moment → left_since b t name image → left_since a t name image ⊎ SurvivesPart [] (files_of (before.folder name)) image)
+      → IsSome told → (t : ℕ) (image : List File) → t ≤ (seen a).moment → left_since b t name image → left_since a t name image
+  left_alone name None here leaves = λ some t image le left. absurd (true≢false (sym some))
+  left_alone name (Some s) here leaves = λ some t image le left. ⊎_elim
+      (λ past. past)
+      (λ part. earlier t (seen a).moment name image le (here image (image_of_all (s.folder name) image (nothing part.0 (files_of (s.folder name)) image part.1))))
+      (leaves t image le left)
+
+  pub keeps_run : (refusal : Option DiskRefusal) → Runs seen left_since calls refusal a b → Keeps seen left_since These a b
+  keeps_run refusal run = record {
+    stands = λ name these. quiet_run name seen left_since calls a b (quiet name these) refusal run;
+    leaves = λ some name these.
+        left_alone name (seen a).told (now name)
+        (left_told name calls [] (record { made = quiet name these; synced = tt; ends = inl refl }) (λ (t : ℕ) (image : List File). left_since b t name image) (λ (t : ℕ) (image : List File). left_since a t name image) (seen a).moment
+        run.steps run.rest (seen a).told run.split (now name) (λ since later image. earlier since later name image) (λ t image. run.nothing_else t name image))
+        some;
+  }
+
+  -- also where memory is wanted after all of them
+  pub keeps_unless_memory : (refusal : Option DiskRefusal) → RunsUnlessMemory seen left_since calls refusal a b → Keeps seen left_since These a b
+  keeps_unless_memory refusal (inl run) = keeps_run refusal run
+  keeps_unless_memory refusal (inr want) = keeps_run None want.1

@@ -3,11 +3,7 @@ use Rattle.std.proofs.Common.{◌≡◌, ℕ, zero, suc, Bool, true, false, cond
 use Rattle.std.specs.Prelude.{⊤}
 use Rattle.sw_disk.specs.Folder.{Change, Publish, Rename, Remove, File, Folder, Survive, all_changed, changed, files_of, renamed, same_name}
 use Rattle.sw_disk.proofs.Images.{image_of_all, survives_synced}
-use Rattle.sw_diskfile.specs.Changes.{IsSettled}
-
-abbrev pub AreSynced : List File → Type 0
-AreSynced [] = ⊤
-AreSynced (file ∷ files) = (file.content.synced ≡ true) × AreSynced files
+use Rattle.sw_diskfile.specs.Changes.{AreSynced, IsSettled}
 
 -- such files stay as they are
 pub survive_exactly : (files image : List File) → AreSynced files → Survive files image → image ≡ files

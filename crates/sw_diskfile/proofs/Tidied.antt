@@ -1,7 +1,7 @@
 -- What a run of tidying leaves.
 use Rattle.std.proofs.Common.{◌≡◌, ◌≢◌, inl, inr, ℕ, ◌≤◌, Bool, List, [], ◌∷◌, map, Option, Some, None, refl, sym, subst}
 use Rattle.std.specs.Prelude.{⊤}
-use Rattle.sw_disk.specs.Answers.{names_of}
+use Rattle.sw_disk.specs.Answers.{IsListing, names_of}
 use Rattle.sw_disk.specs.Calls.{Call, ListNames, SyncDir}
 use Rattle.sw_disk.specs.Folder.{File, IsImage, Remove, files_of}
 use Rattle.sw_disk.specs.Runs.{IfTold, IsUntouched, Past, Runs, Seen}
@@ -10,15 +10,16 @@ use Rattle.sw_disk.specs.declared.refusal.DiskRefusal.{DiskRefusal}
 use Rattle.sw_disk.specs.declared.refusal.DiskRefusal.TheVariants.{Failed}
 use Rattle.sw_disk.proofs.Chains.{runs_more, runs_stop, told_map}
 use Rattle.sw_diskfile.specs.Calls.{purge_calls, tidy_calls}
-use Rattle.sw_diskfile.specs.Changes.{Changes, HasNonePending, IfBothTold, IsAsBefore}
-use Rattle.sw_diskfile.specs.Names.{RunsUnlessMemory}
+use Rattle.sw_diskfile.specs.Changes.{Changes, IfBothTold, IsAsBefore, IsMadeStable, Keeps}
+use Rattle.sw_diskfile.specs.Names.{IsListed, RunsUnlessMemory}
 use Rattle.sw_diskfile.specs.Normal.{AreObsolete, IsTidied, KeepsNormal, Tidies, WithObsolete}
 use Rattle.sw_diskfile.proofs.Begun.{unbegun}
-use Rattle.sw_diskfile.proofs.CallLists.{makes_none, makes_tidy, tidy_ends}
+use Rattle.sw_diskfile.proofs.CallLists.{makes_none, makes_tidy, tidy_alone, tidy_ends}
 use Rattle.sw_diskfile.proofs.Keeping.{keeps, keeps_none, keeps_removed, tidied}
 use Rattle.sw_diskfile.proofs.Kept.{always, quiet_keeps}
+use Rattle.sw_diskfile.proofs.Listings.{listed_directory}
 use Rattle.sw_diskfile.proofs.Normal.{one_list}
-use Rattle.sw_diskfile.proofs.Outcomes.{all_stand, changes_run, quiet_before, stable_run}
+use Rattle.sw_diskfile.proofs.Outcomes.{all_stand, changes_run, keeps_run, quiet_before, stable_run}
 
 -- ---- the look that it begins with
 
@@ -56,9 +57,10 @@ module _ {D : Type 0} (seen : D → Seen) (left_since : D → Past) (folder : Li
   refused : (refusal : Option DiskRefusal) (reason : DiskRefusal) → refusal ≡ Some reason → Runs seen left_since front refusal a b → Runs seen left_since front (Some reason) a b
   refused refusal reason is run = subst (λ (r : Option DiskRefusal). Runs seen left_since front r a b) is run
 
-  pub tidy_runs : (refusal : Option DiskRefusal) → Tidies seen left_since folder is_primary refusal a b → (obsolete : List (List ℕ)) × Runs seen left_since (tidy_calls folder obsolete) refusal a b
-  tidy_runs refusal (inl early) = ([], early.2)
-  tidy_runs refusal (inr all) = (all.0, all.3)
+  -- what is obsolete among the texts that were listed is so in the folder
+  are_told : (texts obsolete : List (List ℕ)) → IsListed (seen a).told folder texts → AreObsolete is_primary texts obsolete → IfTold (seen a).told (Are obsolete)
+  are_told texts obsolete listed are = told_map (seen a).told (λ s. IsListing (names_of (files_of (s.folder folder))) texts) (Are obsolete) listed
+      (λ s is. record { names = are.names; directory = listed_directory (names_of (files_of (s.folder folder))) texts are.names is are.directory; all = are.all; ascend = are.ascend })
 
   -- whatever list of the obsolete texts is asked of
   any_told : (told : Option State) (R : List (List ℕ) → Type 0) → ((obsolete : List (List ℕ)) → R obsolete) → IfTold told (λ s. (obsolete : List (List ℕ)) → Are obsolete s → R obsolete)
@@ -73,12 +75,12 @@ module _ {D : Type 0} (seen : D → Seen) (left_since : D → Past) (folder : Li
   tidy_exact refusal (inl early) = any_told (seen a).told (λ obsolete. Runs seen left_since (tidy_calls folder obsolete) refusal a b)
       (λ obsolete. subst (λ (r : Option DiskRefusal). Runs seen left_since (tidy_calls folder obsolete) r a b) (sym early.1)
       (runs_stop seen left_since front (purge_calls folder obsolete) early.0 a b (refused refusal early.0 early.1 early.2)))
-  tidy_exact refusal (inr all) = one_told (seen a).told (λ obsolete. Runs seen left_since (tidy_calls folder obsolete) refusal a b) all.0 all.1 all.3
+  tidy_exact refusal (inr all) = one_told (seen a).told (λ obsolete. Runs seen left_since (tidy_calls folder obsolete) refusal a b) all.1 (are_told all.0 all.1 all.2 all.3) all.5
 
   -- other refusals than a failure come before any change
   pub tidy_before : (refusal : Option DiskRefusal) → Tidies seen left_since folder is_primary refusal a b → (reason : DiskRefusal) → refusal ≡ Some reason → reason ≢ Failed → IfBothTold (seen a) (seen b) folder IsAsBefore
   tidy_before refusal (inl early) reason is other = quiet_before folder seen left_since front early.0 a b (λ temporary. refl) (refused refusal early.0 early.1 early.2)
-  tidy_before refusal (inr all) reason is other = absurd (other (all.2 reason is))
+  tidy_before refusal (inr all) reason is other = absurd (other (all.4 reason is))
 
   changes_of : (refusal : Option DiskRefusal) → Tidies seen left_since folder is_primary refusal a b → (obsolete : List (List ℕ)) → Runs seen left_since (tidy_calls folder obsolete) refusal a b → Changes seen left_since folder (map Remove obsolete) refusal a b
   changes_of refusal tidies obsolete run = changes_run seen left_since folder (tidy_calls folder obsolete) (map Remove obsolete) (makes_tidy folder obsolete) a b refusal now only earlier run (tidy_before refusal tidies)
@@ -95,7 +97,7 @@ module _ {D : Type 0} (seen : D → Seen) (left_since : D → Past) (folder : Li
       let before = quiet_before folder seen left_since front early.0 a b (λ temporary. refl) run in
       keeps is_primary (λ _. ⊤) [] (keeps_none is_primary) seen left_since folder a b (Some early.0) (always (seen a).told) now earlier
       (changes_run seen left_since folder front [] (makes_none folder) a b (Some early.0) now only earlier run (λ reason is other. before))
-  tidy_keeps refusal (inr all) = keeps is_primary (λ files. AreObsolete is_primary (names_of files) all.0) (map Remove all.0) (keeps_removed is_primary all.0) seen left_since folder a b refusal all.1 now earlier (changes_of refusal (inr all) all.0 all.3)
+  tidy_keeps refusal (inr all) = keeps is_primary (λ files. AreObsolete is_primary (names_of files) all.1) (map Remove all.1) (keeps_removed is_primary all.1) seen left_since folder a b refusal (are_told all.0 all.1 all.2 all.3) now earlier (changes_of refusal (inr all) all.1 all.5)
 
   -- ---- where all was done
 
@@ -105,11 +107,23 @@ module _ {D : Type 0} (seen : D → Seen) (left_since : D → Past) (folder : Li
   pub tidy_done : (refusal : Option DiskRefusal) → Tidies seen left_since folder is_primary refusal a b → refusal ≡ None → IfBothTold (seen a) (seen b) folder (IsTidied is_primary)
   tidy_done refusal (inl early) none = absurd (not_refused refusal early.0 none early.1)
   tidy_done refusal (inr all) none =
-      all_stand seen left_since folder a b (map Remove all.0) refusal (λ before. AreObsolete is_primary (names_of (files_of before)) all.0) (IsTidied is_primary) none (changes_of refusal (inr all) all.0 all.3) all.1 (tidied is_primary all.0)
+      all_stand seen left_since folder a b (map Remove all.1) refusal (λ before. AreObsolete is_primary (names_of (files_of before)) all.1) (IsTidied is_primary) none (changes_of refusal (inr all) all.1 all.5) (are_told all.0 all.1 all.2 all.3)
+      (tidied is_primary all.1)
 
-  pub tidy_stable : (refusal : Option DiskRefusal) → Tidies seen left_since folder is_primary refusal a b → refusal ≡ None → HasNonePending (seen b).told folder
+  pub tidy_stable : (refusal : Option DiskRefusal) → Tidies seen left_since folder is_primary refusal a b → refusal ≡ None → IfBothTold (seen a) (seen b) folder IsMadeStable
   tidy_stable refusal (inl early) none = absurd (not_refused refusal early.0 none early.1)
   tidy_stable refusal (inr all) none =
-      let ends = tidy_ends folder all.0 in
-      stable_run seen left_since folder a b ends.0
-      (subst (λ (l : List Call). Runs seen left_since l None a b) ends.1 (subst (λ (r : Option DiskRefusal). Runs seen left_since (tidy_calls folder all.0) r a b) none all.3))
+      let ends = tidy_ends folder all.1 in
+      stable_run seen left_since folder a b ends.0 (map Remove all.1) refusal
+      (subst (λ (l : List Call). Runs seen left_since l None a b) ends.1 (subst (λ (r : Option DiskRefusal). Runs seen left_since (tidy_calls folder all.1) r a b) none all.5))
+      (changes_of refusal (inr all) all.1 all.5)
+
+-- no other folder is changed
+pub tidy_others : {D : Type 0} (seen : D → Seen) (left_since : D → Past) (folder : List ℕ) (is_primary : Bool) (a b : D)
+    → ((name : List ℕ) (image : List File) → IfTold (seen a).told (λ s. IsImage (s.folder name) image → left_since a (seen a).moment name image))
+    → ((since later : ℕ) (name : List ℕ) (image : List File) → since ≤ later → left_since a later name image → left_since a since name image)
+    → (refusal : Option DiskRefusal) → Tidies seen left_since folder is_primary refusal a b → Keeps seen left_since (λ name. name ≢ folder) a b
+tidy_others seen left_since folder is_primary a b now earlier refusal (inl early) =
+    keeps_run seen left_since (λ name. name ≢ folder) (ListNames folder ∷ SyncDir folder ∷ []) (λ name differs temporary. refl) a b now earlier refusal early.2
+tidy_others seen left_since folder is_primary a b now earlier refusal (inr all) =
+    keeps_run seen left_since (λ name. name ≢ folder) (tidy_calls folder all.1) (λ name differs. tidy_alone folder name differs all.1) a b now earlier refusal all.5

@@ -1,5 +1,5 @@
 -- What stands in a folder after changes of names, and what a crash at any moment leaves of them.
-use Rattle.std.specs.Prelude.{◌≡◌, ◌⊎◌, ℕ, ◌≤◌, true, List, [], take, Option, Some, None}
+use Rattle.std.specs.Prelude.{◌≡◌, ◌⊎◌, ℕ, ◌≤◌, true, List, [], take, Option, Some, None, ⊤, IsSome, ◌∷◌}
 use Rattle.sw_disk.specs.Folder.{Change, Publish, File, Folder, IsImage, Survive, all_changed, files_of}
 use Rattle.sw_disk.specs.Runs.{IfTold, LeavesOnly, Past, Seen}
 use Rattle.sw_disk.specs.State.{State}
@@ -9,6 +9,11 @@ use Rattle.sw_disk.specs.declared.refusal.DiskRefusal.TheVariants.{Failed, Full,
 -- a new file whose bytes are on the disk
 abbrev pub new_file : (name bytes : List ℕ) → Change
 new_file name bytes = Publish (record { name = name; content = record { bytes = bytes; synced = true } })
+
+-- the bytes of these files are on the disk
+abbrev pub AreSynced : List File → Type 0
+AreSynced [] = ⊤
+AreSynced (file ∷ files) = (file.content.synced ≡ true) × AreSynced files
 
 -- a crash leaves the folder as it is
 abbrev pub IsSettled : Folder → Type 0
@@ -42,15 +47,24 @@ IfBothTold old new name P = IfTold old.told (λ before. IfTold new.told (λ afte
 pub record Changes {D : Type 0} (seen : D → Seen) (left_since : D → Past) (name : List ℕ) (changes : List Change) (refusal : Option DiskRefusal) (old new : D) : Type 0 where
   -- what stands
   pub stands : IfBothTold (seen old) (seen new) name (Stands refusal changes)
+  pub synced : IfBothTold (seen old) (seen new) name (λ before after. AreSynced (files_of before) → AreSynced (files_of after))
   -- a crash at any moment within leaves what it might have left without them, or what survives of some first part of them
   pub leaves : IfTold (seen old).told (λ before. (t : ℕ) (image : List File) → t ≤ (seen old).moment → left_since new t name image
       → left_since old t name image ⊎ SurvivesPart changes (files_of (before.folder name)) image)
+  -- just that part where all bytes were on the disk before
+  pub exactly : IfTold (seen old).told (λ before. AreSynced (files_of (before.folder name)) → (t : ℕ) (image : List File) → t ≤ (seen old).moment → left_since new t name image
+      → left_since old t name image ⊎ IsFirstPart changes (files_of (before.folder name)) image)
   -- so where a crash could only have left the folder as it was, it leaves just the files after some first part of them
   pub within : IfTold (seen old).told (λ before. IsSettled (before.folder name) →
       LeavesOnly left_since new (seen old).moment name (IsFirstPart changes (files_of (before.folder name))))
   -- and once they are made, all of them
   pub settles : IfBothTold (seen old) (seen new) name (λ before after. refusal ≡ None → IsSettled before → IsSettled after)
 
--- no change of names is pending in a folder of a disk that tells
-abbrev pub HasNonePending : Option State → List ℕ → Type 0
-HasNonePending told name = IfTold told (λ state. (state.folder name).pending ≡ [])
+-- No change of names is pending; and a crash leaves the folder as it is, where the bytes of its files were on the disk before.
+abbrev pub IsMadeStable : (before after : Folder) → Type 0
+IsMadeStable before after = (after.pending ≡ []) × (AreSynced (files_of before) → IsSettled after)
+
+-- The folders of these names are as before, and a crash leaves there what it might have left without the call.
+pub record Keeps {D : Type 0} (seen : D → Seen) (left_since : D → Past) (These : List ℕ → Type 0) (old new : D) : Type 0 where
+  pub stands : (name : List ℕ) → These name → IfBothTold (seen old) (seen new) name IsAsBefore
+  pub leaves : IsSome (seen old).told → (name : List ℕ) → These name → (t : ℕ) (image : List File) → t ≤ (seen old).moment → left_since new t name image → left_since old t name image

@@ -1,9 +1,10 @@
 -- How the directory of a folder changes, and how a folder is looked at.
-use Rattle.std.specs.Prelude.{◌≡◌, ◌≢◌, ◌⊎◌, ◌↔◌, List, Contains, Option, Some, None}
-use Rattle.sw_disk.specs.Answers.{names_of}
+use Rattle.std.specs.Prelude.{◌≡◌, ◌≢◌, ◌⊎◌, ◌↔◌, List, Contains, Option, Some, None, ℕ}
+use Rattle.sw_disk.specs.Answers.{IsListing, names_of}
 use Rattle.sw_disk.specs.Calls.{Call}
 use Rattle.sw_disk.specs.Folder.{Folder, files_of}
-use Rattle.sw_disk.specs.Runs.{Past, Runs, Seen}
+use Rattle.sw_disk.specs.Runs.{IfTold, Past, Runs, Seen}
+use Rattle.sw_disk.specs.State.{State}
 use Rattle.sw_disk.specs.declared.refusal.DiskRefusal.{DiskRefusal}
 use Rattle.sw_disk.specs.declared.refusal.DiskRefusal.TheVariants.{NoMemory}
 use Rattle.sw_hashpath.specs.declared.file_name.FileName.{FileName}
@@ -13,6 +14,10 @@ use Rattle.sw_hashdir.specs.Obsolete.{IsAfter}
 -- these are the names of the folder's files
 abbrev pub IsDirectoryOf : Folder → List FileName → Type 0
 IsDirectoryOf folder names = IsDirectory (names_of (files_of folder)) names
+
+-- these are the names of the folder's files, ascending, where they are told
+abbrev pub IsListed : Option State → List ℕ → List (List ℕ) → Type 0
+IsListed told name texts = IfTold told (λ state. IsListing (names_of (files_of (state.folder name))) texts)
 
 -- the directory becomes that once this name was made
 abbrev pub MakesName : FileName → (before after : Folder) → Type 0

@@ -18,6 +18,7 @@ use Rattle.sw_hashdir.specs.Obsolete.{IsObsolete}
 use Rattle.sw_hashdir.specs.declared.floor.Floor.{Floor}
 use Rattle.sw_diskfile.specs.Calls.{tidy_calls}
 use Rattle.sw_diskfile.specs.Changes.{IfBothTold, IsSettled}
+use Rattle.sw_diskfile.specs.Names.{IsListed}
 
 -- the text is that of an obsolete name
 abbrev pub IsObsoleteText : Bool → List FileName → List ℕ → Type 0
@@ -68,9 +69,10 @@ pub record KeepsNormal {D : Type 0} (seen : D → Seen) (left_since : D → Past
   pub within : IfTold (seen old).told (λ before. IsSettled (before.folder name) →
       LeavesOnly left_since new (seen old).moment name (HaveOneNormalForm is_primary (files_of (before.folder name))))
 
--- tidying, call by call: it is refused before the first removal, or the obsolete names are removed, and then only failures stop it
+-- Tidying, call by call: it is refused before the first removal, or what is obsolete among the texts that were listed is removed, and
+-- then only failures stop it.
 abbrev pub Tidies : {D : Type 0} → (D → Seen) → (D → Past) → List ℕ → Bool → Option DiskRefusal → D → D → Type 0
 Tidies seen left_since name is_primary refusal old new =
     ((reason : DiskRefusal) × (refusal ≡ Some reason) × Runs seen left_since (ListNames name ∷ SyncDir name ∷ []) refusal old new)
-    ⊎ ((obsolete : List (List ℕ)) × IfTold (seen old).told (λ state. AreObsolete is_primary (names_of (files_of (state.folder name))) obsolete)
+    ⊎ ((texts obsolete : List (List ℕ)) × IsListed (seen old).told name texts × AreObsolete is_primary texts obsolete
     × ((reason : DiskRefusal) → refusal ≡ Some reason → reason ≡ Failed) × Runs seen left_since (tidy_calls name obsolete) refusal old new)

@@ -11,7 +11,7 @@ ghost use Rattle.sw_disk.specs.declared.refusal.DiskRefusal.TheVariants.{Failed}
 ghost use Rattle.sw_hashpath.specs.FileName.{file_name_text};
 ghost use Rattle.sw_hashpath.specs.declared.file_name.FileName.TheVariants.{Data};
 ghost use Rattle.sw_diskfile.specs.Calls.{commit_calls};
-ghost use Rattle.sw_diskfile.specs.Changes.{Changes, HasNonePending, IfBothTold};
+ghost use Rattle.sw_diskfile.specs.Changes.{Changes, IfBothTold, IsMadeStable, Keeps};
 ghost use Rattle.sw_diskfile.specs.Names.{MakesName};
 
 use std::alloc::Global;
@@ -34,9 +34,11 @@ pub fn commit<D: Disk>(
     requires there { IfTold (D.seen disk.old).told (λ state. HasFile state folder.now (file_name_text (Data stamp index false))) }
     requires new { IfTold (D.seen disk.old).told (λ state. LacksFile state folder.now (file_name_text (Data stamp index true))) }
     ensures runs { Runs D.seen D.left_since (commit_calls folder.now (file_name_text (Data stamp index false)) (file_name_text (Data stamp index true))) (refusal_of result) disk.old disk.new }
+    ensures early { (reason : ARefusal) → refusal_of result ≡ Some reason → reason ≢ Failed → Runs D.seen D.left_since (RenameFile folder.now (file_name_text (Data stamp index false)) (file_name_text (Data stamp index true)) ∷ []) (Some reason) disk.old disk.new }
     ensures changes { Changes D.seen D.left_since folder.now (Rename (file_name_text (Data stamp index false)) (file_name_text (Data stamp index true)) ∷ []) (refusal_of result) disk.old disk.new }
     ensures directory { OnOk result (IfBothTold (D.seen disk.old) (D.seen disk.new) folder.now (MakesName (Data stamp index true))) }
-    ensures stable { OnOk result (HasNonePending (D.seen disk.new).told folder.now) }
+    ensures stable { OnOk result (IfBothTold (D.seen disk.old) (D.seen disk.new) folder.now IsMadeStable) }
+    ensures others { Keeps D.seen D.left_since (λ name. name ≢ folder.now) disk.old disk.new }
     ensures room { TakesRoom folder.now (D.seen disk.old) (D.seen disk.new) }
     ensures never_full { IfErr result IsNotFull }
 {

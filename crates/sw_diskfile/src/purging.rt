@@ -11,7 +11,7 @@ ghost use Rattle.sw_disk.specs.Folder.{Remove, files_of};
 ghost use Rattle.sw_disk.specs.Runs.{IfTold, Runs, refusal_of};
 ghost use Rattle.sw_disk.specs.declared.refusal.DiskRefusal.TheVariants.{Failed};
 ghost use Rattle.sw_diskfile.specs.Calls.{purge_calls};
-ghost use Rattle.sw_diskfile.specs.Changes.{Changes, HasNonePending, IfBothTold};
+ghost use Rattle.sw_diskfile.specs.Changes.{Changes, IfBothTold, IsMadeStable, Keeps};
 ghost use Rattle.sw_diskfile.specs.Normal.{AreObsolete, IsObsoleteText, IsTidied, KeepsNormal};
 
 use std::alloc::Global;
@@ -53,7 +53,8 @@ pub fn purge<D: Disk>(
     ensures changes { Changes D.seen D.left_since folder.now (map Remove (texts_of obsolete.now)) (refusal_of result) disk.old disk.new }
     ensures tidied { OnOk result (IfBothTold (D.seen disk.old) (D.seen disk.new) folder.now (IsTidied is_primary)) }
     ensures keeps { KeepsNormal D.seen D.left_since folder.now is_primary disk.old disk.new }
-    ensures stable { OnOk result (obsolete.now ≢ [] → HasNonePending (D.seen disk.new).told folder.now) }
+    ensures stable { OnOk result (obsolete.now ≢ [] → IfBothTold (D.seen disk.old) (D.seen disk.new) folder.now IsMadeStable) }
+    ensures others { Keeps D.seen D.left_since (λ name. name ≢ folder.now) disk.old disk.new }
     ensures cause { IfErr result (λ refusal. refusal ≡ Failed) }
 {
     purge_by_calls(disk, folder, is_primary, obsolete)

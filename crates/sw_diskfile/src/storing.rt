@@ -13,7 +13,7 @@ ghost use Rattle.sw_hashpath.specs.declared.file_name.FileName.{FileName as AFil
 ghost use Rattle.sw_hashpath.specs.declared.file_name.FileName.TheVariants.{Data, Tombstone};
 ghost use Rattle.sw_hashdir.specs.Obsolete.{Replaces};
 ghost use Rattle.sw_diskfile.specs.Calls.{store_calls};
-ghost use Rattle.sw_diskfile.specs.Changes.{Changes, HasNonePending, IfBothTold, new_file};
+ghost use Rattle.sw_diskfile.specs.Changes.{Changes, IfBothTold, IsMadeStable, Keeps, new_file};
 ghost use Rattle.sw_diskfile.specs.Names.{MakesName};
 
 use std::alloc::Global;
@@ -23,7 +23,7 @@ use sw_types::Stamp;
 
 /// Stores an archive of an index below 32, not durable, where its plain name is not there yet.
 ///
-/// The disk may be full, as its `write_tmp` says. Memory is taken before anything is changed.
+/// The disk may be full, as its `write_tmp` says. All memory is taken, and the room is known, before the first device call is done.
 pub fn store<D: Disk>(
     alloc: Global,
     disk: &mut D,
@@ -36,9 +36,11 @@ pub fn store<D: Disk>(
     requires index { index < greatest_total }
     requires new { IfTold (D.seen disk.old).told (λ state. LacksFile state folder.now (file_name_text (Data stamp index false))) }
     ensures runs { Runs D.seen D.left_since (store_calls folder.now (file_name_text (Data stamp index false)) bytes.now) (refusal_of result) disk.old disk.new }
+    ensures early { (reason : ARefusal) → refusal_of result ≡ Some reason → reason ≢ Failed → Runs D.seen D.left_since (WriteTmp bytes.now ∷ []) (Some reason) disk.old disk.new }
     ensures changes { Changes D.seen D.left_since folder.now (new_file (file_name_text (Data stamp index false)) bytes.now ∷ []) (refusal_of result) disk.old disk.new }
     ensures directory { OnOk result (IfBothTold (D.seen disk.old) (D.seen disk.new) folder.now (MakesName (Data stamp index false))) }
-    ensures stable { OnOk result (HasNonePending (D.seen disk.new).told folder.now) }
+    ensures stable { OnOk result (IfBothTold (D.seen disk.old) (D.seen disk.new) folder.now IsMadeStable) }
+    ensures others { Keeps D.seen D.left_since (λ name. name ≢ folder.now) disk.old disk.new }
     ensures room { TakesRoom folder.now (D.seen disk.old) (D.seen disk.new) }
     ensures full { (need free : ℕ) → IsErrOf result (DiskRefusal.Full need free) → IsFull need free (length bytes.now) (D.seen disk.old).told }
     ensures fits { OnOk result (IfTold (D.seen disk.old).told (λ state. length bytes.now ≤ free_of state)) }
@@ -51,7 +53,8 @@ pub fn store<D: Disk>(
     make_file(alloc, disk, folder, &name, bytes)
 }
 
-/// Writes a tombstone, a file without bytes, where it is not there yet. Memory is taken before anything is changed.
+/// Writes a tombstone, a file without bytes, where it is not there yet. All memory is taken
+/// before the first device call is done.
 pub fn bury<D: Disk>(
     alloc: Global,
     disk: &mut D,
@@ -61,9 +64,11 @@ pub fn bury<D: Disk>(
     requires folder { length folder.now ≤ 64 }
     requires new { IfTold (D.seen disk.old).told (λ state. LacksFile state folder.now (file_name_text (Tombstone stamp))) }
     ensures runs { Runs D.seen D.left_since (store_calls folder.now (file_name_text (Tombstone stamp)) []) (refusal_of result) disk.old disk.new }
+    ensures early { (reason : ARefusal) → refusal_of result ≡ Some reason → reason ≢ Failed → Runs D.seen D.left_since (WriteTmp [] ∷ []) (Some reason) disk.old disk.new }
     ensures changes { Changes D.seen D.left_since folder.now (new_file (file_name_text (Tombstone stamp)) [] ∷ []) (refusal_of result) disk.old disk.new }
     ensures directory { OnOk result (IfBothTold (D.seen disk.old) (D.seen disk.new) folder.now (MakesName (Tombstone stamp))) }
-    ensures stable { OnOk result (HasNonePending (D.seen disk.new).told folder.now) }
+    ensures stable { OnOk result (IfBothTold (D.seen disk.old) (D.seen disk.new) folder.now IsMadeStable) }
+    ensures others { Keeps D.seen D.left_since (λ name. name ≢ folder.now) disk.old disk.new }
     ensures room { TakesRoom folder.now (D.seen disk.old) (D.seen disk.new) }
     ensures never_full { IfErr result IsNotFull }
 {
@@ -83,9 +88,11 @@ fn make_file<D: Disk>(
     requires plain { (other : AFileName) → Replaces name.now other → ⊥ }
     requires new { IfTold (D.seen disk.old).told (λ state. LacksFile state folder.now (file_name_text name.now)) }
     ensures runs { Runs D.seen D.left_since (store_calls folder.now (file_name_text name.now) bytes.now) (refusal_of result) disk.old disk.new }
+    ensures early { (reason : ARefusal) → refusal_of result ≡ Some reason → reason ≢ Failed → Runs D.seen D.left_since (WriteTmp bytes.now ∷ []) (Some reason) disk.old disk.new }
     ensures changes { Changes D.seen D.left_since folder.now (new_file (file_name_text name.now) bytes.now ∷ []) (refusal_of result) disk.old disk.new }
     ensures directory { OnOk result (IfBothTold (D.seen disk.old) (D.seen disk.new) folder.now (MakesName name.now)) }
-    ensures stable { OnOk result (HasNonePending (D.seen disk.new).told folder.now) }
+    ensures stable { OnOk result (IfBothTold (D.seen disk.old) (D.seen disk.new) folder.now IsMadeStable) }
+    ensures others { Keeps D.seen D.left_since (λ name. name ≢ folder.now) disk.old disk.new }
     ensures room { TakesRoom folder.now (D.seen disk.old) (D.seen disk.new) }
     ensures full { (need free : ℕ) → IsErrOf result (DiskRefusal.Full need free) → IsFull need free (length bytes.now) (D.seen disk.old).told }
     ensures fits { OnOk result (IfTold (D.seen disk.old).told (λ state. length bytes.now ≤ free_of state)) }

@@ -1,6 +1,6 @@
 //! Tidying folders.
 
-ghost use Rattle.std.specs.Prelude.{◌≡◌, ◌≤◌, ℕ, ◌∷◌, List, IfErr, IsErrOf, OnOk, length, map, string_bytes};
+ghost use Rattle.std.specs.Prelude.{◌≡◌, ◌≢◌, ◌≤◌, ℕ, ◌∷◌, List, IfErr, IsErrOf, OnOk, length, map, string_bytes};
 ghost use Rattle.std.specs.List.{All};
 ghost use Rattle.sw_disk.specs.Answers.{IsNotFull, names_of, texts_of};
 ghost use Rattle.sw_disk.specs.Calls.{SyncDir};
@@ -8,7 +8,7 @@ ghost use Rattle.sw_disk.specs.Folder.{Remove, files_of};
 ghost use Rattle.sw_disk.specs.Runs.{IfTold, Runs, refusal_of};
 ghost use Rattle.sw_disk.specs.declared.refusal.DiskRefusal.TheVariants.{Failed, NoMemory};
 ghost use Rattle.sw_diskfile.specs.Calls.{purge_calls, tidy_calls};
-ghost use Rattle.sw_diskfile.specs.Changes.{Changes, HasNonePending, IfBothTold, IsAsBefore};
+ghost use Rattle.sw_diskfile.specs.Changes.{Changes, IfBothTold, IsAsBefore, IsMadeStable, Keeps};
 ghost use Rattle.sw_diskfile.specs.Normal.{AreObsolete, IsTidied, KeepsNormal, Tidies, WithObsolete};
 
 use crate::looking::look;
@@ -27,13 +27,14 @@ pub fn tidy<D: Disk>(
     is_primary: bool,
 ) -> Result<(), DiskRefusal>
     requires { length folder.now ≤ 64 }
-    ensures runs { (obsolete : List (List ℕ)) × Runs D.seen D.left_since (tidy_calls folder.now obsolete) (refusal_of result) disk.old disk.new }
+    ensures runs { Tidies D.seen D.left_since folder.now is_primary (refusal_of result) disk.old disk.new }
     ensures exact { WithObsolete (D.seen disk.old).told folder.now is_primary (λ obsolete. Runs D.seen D.left_since (tidy_calls folder.now obsolete) (refusal_of result) disk.old disk.new) }
     ensures changes { WithObsolete (D.seen disk.old).told folder.now is_primary (λ obsolete. Changes D.seen D.left_since folder.now (map Remove obsolete) (refusal_of result) disk.old disk.new) }
     ensures tidied { OnOk result (IfBothTold (D.seen disk.old) (D.seen disk.new) folder.now (IsTidied is_primary)) }
     ensures keeps { KeepsNormal D.seen D.left_since folder.now is_primary disk.old disk.new }
     ensures kept { IsErrOf result NoMemory → IfBothTold (D.seen disk.old) (D.seen disk.new) folder.now IsAsBefore }
-    ensures stable { OnOk result (HasNonePending (D.seen disk.new).told folder.now) }
+    ensures stable { OnOk result (IfBothTold (D.seen disk.old) (D.seen disk.new) folder.now IsMadeStable) }
+    ensures others { Keeps D.seen D.left_since (λ name. name ≢ folder.now) disk.old disk.new }
     ensures never_full { IfErr result IsNotFull }
 {
     tidy_by_calls(alloc, disk, folder, is_primary)

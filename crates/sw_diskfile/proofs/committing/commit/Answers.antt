@@ -1,4 +1,4 @@
-use Rattle.std.proofs.Common.{Bool, ◌≤◌, false, true, [], ◌∷◌, IsSome, sym, subst, rules}
+use Rattle.std.proofs.Common.{◌≢◌, Bool, ◌≤◌, false, true, [], ◌∷◌, IsSome, sym, subst, rules}
 use Rattle.sw_types.specs.Stamp.{greatest_stamp}
 use Rattle.sw_disk.specs.Answers.{names_of}
 use Rattle.sw_disk.specs.Calls.{RenameFile}
@@ -8,11 +8,11 @@ use Rattle.sw_hashpath.specs.FileName.{file_name_text}
 use Rattle.sw_hashpath.specs.declared.file_name.FileName.TheVariants.{Data}
 use Rattle.sw_hashdir.specs.Directory.{IsDirectory}
 use Rattle.sw_diskfile.specs.Calls.{commit_calls}
-use Rattle.sw_diskfile.specs.Changes.{HasNonePending, IfBothTold}
+use Rattle.sw_diskfile.specs.Changes.{IsMadeStable, IfBothTold}
 use Rattle.sw_diskfile.specs.Names.{MakesName}
-use Rattle.sw_diskfile.proofs.CallLists.{makes_commit}
+use Rattle.sw_diskfile.proofs.CallLists.{commit_alone, makes_commit}
 use Rattle.sw_diskfile.proofs.Directories.{durable_directory}
-use Rattle.sw_diskfile.proofs.Outcomes.{all_stand, changes_run, on_ok, refused_before, stable_run}
+use Rattle.sw_diskfile.proofs.Outcomes.{keeps_run, all_stand, changes_run, on_ok, refused_before, stable_run}
 use Rattle.sw_diskfile.proofs.committing.commit.Goals as goal
 
 pub returns-clause-changes : goal.returns-clause-changes
@@ -41,6 +41,14 @@ pub returns-clause-stable : goal.returns-clause-stable
 returns-clause-stable g c =
     let folder = c.args.folder.now in
     let text = λ (durable : Bool). file_name_text (Data c.args.stamp c.args.index durable) in
-    on_ok c.commit_by_calls.result (HasNonePending (g.D.Disk.seen c.commit_by_calls.new.disk).told folder) (λ none.
-    stable_run g.D.Disk.seen g.D.Disk.left_since folder c.args.disk.now c.commit_by_calls.new.disk (RenameFile folder (text false) (text true) ∷ [])
-    (subst (λ r. Runs g.D.Disk.seen g.D.Disk.left_since (commit_calls folder (text false) (text true)) r c.args.disk.now c.commit_by_calls.new.disk) none c.commit_by_calls.ensures.runs))
+    on_ok c.commit_by_calls.result (IfBothTold (g.D.Disk.seen c.args.disk.now) (g.D.Disk.seen c.commit_by_calls.new.disk) folder IsMadeStable) (λ none.
+    stable_run g.D.Disk.seen g.D.Disk.left_since folder c.args.disk.now c.commit_by_calls.new.disk (RenameFile folder (text false) (text true) ∷ []) (Rename (text false) (text true) ∷ []) (refusal_of c.commit_by_calls.result)
+    (subst (λ r. Runs g.D.Disk.seen g.D.Disk.left_since (commit_calls folder (text false) (text true)) r c.args.disk.now c.commit_by_calls.new.disk) none c.commit_by_calls.ensures.runs) (returns-clause-changes g c))
+
+pub returns-clause-others : goal.returns-clause-others
+returns-clause-others g c =
+    let folder = c.args.folder.now in
+    let disk = c.args.disk.now in
+    let text = λ (durable : Bool). file_name_text (Data c.args.stamp c.args.index durable) in
+    keeps_run g.D.Disk.seen g.D.Disk.left_since (λ name. name ≢ folder) (commit_calls folder (text false) (text true)) (λ name differs. commit_alone folder name differs (text false) (text true)) disk c.commit_by_calls.new.disk
+    (g.met.D.Disk.now disk) (λ since later name image. g.met.D.Disk.earlier disk since later name image) (refusal_of c.commit_by_calls.result) c.commit_by_calls.ensures.runs

@@ -1,4 +1,4 @@
-use Rattle.std.proofs.Common.{◌≤◌, [], ◌∷◌, sym, subst, rules}
+use Rattle.std.proofs.Common.{◌≢◌, ◌≤◌, [], ◌∷◌, sym, subst, rules}
 use Rattle.std.specs.Prelude.{⊤}
 use Rattle.sw_types.specs.Stamp.{greatest_stamp}
 use Rattle.sw_disk.specs.Answers.{names_of}
@@ -9,12 +9,12 @@ use Rattle.sw_hashpath.specs.FileName.{file_name_text}
 use Rattle.sw_hashpath.specs.declared.file_name.FileName.TheVariants.{Data}
 use Rattle.sw_hashdir.specs.Directory.{IsDirectory}
 use Rattle.sw_diskfile.specs.Calls.{drop_calls}
-use Rattle.sw_diskfile.specs.Changes.{HasNonePending, IfBothTold}
+use Rattle.sw_diskfile.specs.Changes.{IsMadeStable, IfBothTold}
 use Rattle.sw_diskfile.specs.Names.{DropsName}
-use Rattle.sw_diskfile.proofs.CallLists.{makes_drop}
+use Rattle.sw_diskfile.proofs.CallLists.{drop_alone, makes_drop}
 use Rattle.sw_diskfile.proofs.Directories.{dropped_directory}
 use Rattle.sw_diskfile.proofs.Kept.{always}
-use Rattle.sw_diskfile.proofs.Outcomes.{all_stand, changes_run, on_ok, refused_before, stable_run}
+use Rattle.sw_diskfile.proofs.Outcomes.{keeps_run, all_stand, changes_run, on_ok, refused_before, stable_run}
 use Rattle.sw_diskfile.proofs.dropping.drop_entry.Goals as goal
 
 pub returns-clause-changes : goal.returns-clause-changes
@@ -42,6 +42,14 @@ pub returns-clause-stable : goal.returns-clause-stable
 returns-clause-stable g c =
     let folder = c.args.folder.now in
     let text = file_name_text (Data c.args.entry.stamp c.args.entry.index c.args.entry.durable) in
-    on_ok c.drop_by_calls.result (HasNonePending (g.D.Disk.seen c.drop_by_calls.new.disk).told folder) (λ none.
-    stable_run g.D.Disk.seen g.D.Disk.left_since folder c.args.disk.now c.drop_by_calls.new.disk (RemoveFile folder text ∷ [])
-    (subst (λ r. Runs g.D.Disk.seen g.D.Disk.left_since (drop_calls folder text) r c.args.disk.now c.drop_by_calls.new.disk) none c.drop_by_calls.ensures.runs))
+    on_ok c.drop_by_calls.result (IfBothTold (g.D.Disk.seen c.args.disk.now) (g.D.Disk.seen c.drop_by_calls.new.disk) folder IsMadeStable) (λ none.
+    stable_run g.D.Disk.seen g.D.Disk.left_since folder c.args.disk.now c.drop_by_calls.new.disk (RemoveFile folder text ∷ []) (Remove text ∷ []) (refusal_of c.drop_by_calls.result)
+    (subst (λ r. Runs g.D.Disk.seen g.D.Disk.left_since (drop_calls folder text) r c.args.disk.now c.drop_by_calls.new.disk) none c.drop_by_calls.ensures.runs) (returns-clause-changes g c))
+
+pub returns-clause-others : goal.returns-clause-others
+returns-clause-others g c =
+    let folder = c.args.folder.now in
+    let disk = c.args.disk.now in
+    let text = file_name_text (Data c.args.entry.stamp c.args.entry.index c.args.entry.durable) in
+    keeps_run g.D.Disk.seen g.D.Disk.left_since (λ name. name ≢ folder) (drop_calls folder text) (λ name differs. drop_alone folder name differs text) disk c.drop_by_calls.new.disk
+    (g.met.D.Disk.now disk) (λ since later name image. g.met.D.Disk.earlier disk since later name image) (refusal_of c.drop_by_calls.result) c.drop_by_calls.ensures.runs

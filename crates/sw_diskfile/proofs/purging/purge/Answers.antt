@@ -4,11 +4,11 @@ use Rattle.sw_disk.specs.Calls.{Call}
 use Rattle.sw_disk.specs.Folder.{Remove, files_of}
 use Rattle.sw_disk.specs.Runs.{Runs, refusal_of}
 use Rattle.sw_diskfile.specs.Calls.{purge_calls}
-use Rattle.sw_diskfile.specs.Changes.{HasNonePending, IfBothTold}
+use Rattle.sw_diskfile.specs.Changes.{IsMadeStable, IfBothTold}
 use Rattle.sw_diskfile.specs.Normal.{AreObsolete, IsTidied}
-use Rattle.sw_diskfile.proofs.CallLists.{makes_purge}
+use Rattle.sw_diskfile.proofs.CallLists.{purge_alone, makes_purge}
 use Rattle.sw_diskfile.proofs.Keeping.{keeps, keeps_removed, tidied}
-use Rattle.sw_diskfile.proofs.Outcomes.{all_stand, changes_run, on_ok, only_fails, stable_run}
+use Rattle.sw_diskfile.proofs.Outcomes.{keeps_run, all_stand, changes_run, on_ok, only_fails, stable_run}
 use Rattle.sw_diskfile.proofs.Removing.{no_names, removals, some_purge}
 use Rattle.sw_diskfile.proofs.purging.purge.Goals as goal
 
@@ -42,7 +42,14 @@ pub returns-clause-stable : goal.returns-clause-stable
 returns-clause-stable g c =
     let folder = c.args.folder.now in
     let names = c.args.obsolete.now in
-    on_ok c.purge_by_calls.result (names ≢ [] → HasNonePending (g.D.Disk.seen c.purge_by_calls.new.disk).told folder) (λ none some.
-    stable_run g.D.Disk.seen g.D.Disk.left_since folder c.args.disk.now c.purge_by_calls.new.disk (removals folder names)
+    on_ok c.purge_by_calls.result (names ≢ [] → IfBothTold (g.D.Disk.seen c.args.disk.now) (g.D.Disk.seen c.purge_by_calls.new.disk) folder IsMadeStable) (λ none some.
+    stable_run g.D.Disk.seen g.D.Disk.left_since folder c.args.disk.now c.purge_by_calls.new.disk (removals folder names) (map Remove (texts_of names)) (refusal_of c.purge_by_calls.result)
     (subst (λ (l : List Call). Runs g.D.Disk.seen g.D.Disk.left_since l None c.args.disk.now c.purge_by_calls.new.disk) (some_purge folder names (λ none. some (no_names names none)))
-    (subst (λ r. Runs g.D.Disk.seen g.D.Disk.left_since (purge_calls folder (texts_of names)) r c.args.disk.now c.purge_by_calls.new.disk) none c.purge_by_calls.ensures.runs)))
+    (subst (λ r. Runs g.D.Disk.seen g.D.Disk.left_since (purge_calls folder (texts_of names)) r c.args.disk.now c.purge_by_calls.new.disk) none c.purge_by_calls.ensures.runs)) (returns-clause-changes g c))
+
+pub returns-clause-others : goal.returns-clause-others
+returns-clause-others g c =
+    let folder = c.args.folder.now in
+    let disk = c.args.disk.now in
+    keeps_run g.D.Disk.seen g.D.Disk.left_since (λ name. name ≢ folder) (purge_calls folder (texts_of c.args.obsolete.now)) (λ name differs. purge_alone folder name differs (texts_of c.args.obsolete.now)) disk c.purge_by_calls.new.disk
+    (g.met.D.Disk.now disk) (λ since later name image. g.met.D.Disk.earlier disk since later name image) (refusal_of c.purge_by_calls.result) c.purge_by_calls.ensures.runs

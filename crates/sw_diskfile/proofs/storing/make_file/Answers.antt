@@ -1,4 +1,4 @@
-use Rattle.std.proofs.Common.{true, [], ◌∷◌, refl, sym, subst}
+use Rattle.std.proofs.Common.{◌≢◌, true, [], ◌∷◌, refl, sym, subst}
 use Rattle.std.specs.Prelude.{⊤}
 use Rattle.sw_disk.specs.Answers.{names_of}
 use Rattle.sw_disk.specs.Calls.{PublishTmp, SyncTmp, WriteTmp}
@@ -7,12 +7,12 @@ use Rattle.sw_disk.specs.Runs.{Runs, refusal_of}
 use Rattle.sw_hashpath.specs.FileName.{file_name_text}
 use Rattle.sw_hashdir.specs.Directory.{IsDirectory}
 use Rattle.sw_diskfile.specs.Calls.{store_calls}
-use Rattle.sw_diskfile.specs.Changes.{HasNonePending, IfBothTold, new_file}
+use Rattle.sw_diskfile.specs.Changes.{IsMadeStable, IfBothTold, new_file}
 use Rattle.sw_diskfile.specs.Names.{MakesName}
-use Rattle.sw_diskfile.proofs.CallLists.{makes_store}
+use Rattle.sw_diskfile.proofs.CallLists.{store_alone, makes_store}
 use Rattle.sw_diskfile.proofs.Directories.{made_directory}
 use Rattle.sw_diskfile.proofs.Kept.{always}
-use Rattle.sw_diskfile.proofs.Outcomes.{all_stand, changes_run, on_ok, refused_before, stable_run}
+use Rattle.sw_diskfile.proofs.Outcomes.{keeps_run, all_stand, changes_run, on_ok, refused_before, stable_run}
 use Rattle.sw_diskfile.proofs.storing.make_file.Goals as goal
 
 pub returns-clause-changes : goal.returns-clause-changes
@@ -39,6 +39,13 @@ returns-clause-directory g c =
 pub returns-clause-stable : goal.returns-clause-stable
 returns-clause-stable g c =
     let folder = c.args.folder.now in
-    on_ok c.file_by_calls.result (HasNonePending (g.D.Disk.seen c.file_by_calls.new.disk).told folder) (λ none.
-    stable_run g.D.Disk.seen g.D.Disk.left_since folder c.args.disk.now c.file_by_calls.new.disk (WriteTmp c.args.bytes.now ∷ SyncTmp ∷ PublishTmp folder (file_name_text c.args.name.now) ∷ [])
-    (subst (λ r. Runs g.D.Disk.seen g.D.Disk.left_since (store_calls folder (file_name_text c.args.name.now) c.args.bytes.now) r c.args.disk.now c.file_by_calls.new.disk) none c.file_by_calls.ensures.runs))
+    on_ok c.file_by_calls.result (IfBothTold (g.D.Disk.seen c.args.disk.now) (g.D.Disk.seen c.file_by_calls.new.disk) folder IsMadeStable) (λ none.
+    stable_run g.D.Disk.seen g.D.Disk.left_since folder c.args.disk.now c.file_by_calls.new.disk (WriteTmp c.args.bytes.now ∷ SyncTmp ∷ PublishTmp folder (file_name_text c.args.name.now) ∷ []) (new_file (file_name_text c.args.name.now) c.args.bytes.now ∷ []) (refusal_of c.file_by_calls.result)
+    (subst (λ r. Runs g.D.Disk.seen g.D.Disk.left_since (store_calls folder (file_name_text c.args.name.now) c.args.bytes.now) r c.args.disk.now c.file_by_calls.new.disk) none c.file_by_calls.ensures.runs) (returns-clause-changes g c))
+
+pub returns-clause-others : goal.returns-clause-others
+returns-clause-others g c =
+    let folder = c.args.folder.now in
+    let disk = c.args.disk.now in
+    keeps_run g.D.Disk.seen g.D.Disk.left_since (λ name. name ≢ folder) (store_calls folder (file_name_text c.args.name.now) c.args.bytes.now) (λ name differs. store_alone folder name differs (file_name_text c.args.name.now) c.args.bytes.now) disk c.file_by_calls.new.disk
+    (g.met.D.Disk.now disk) (λ since later name image. g.met.D.Disk.earlier disk since later name image) (refusal_of c.file_by_calls.result) c.file_by_calls.ensures.runs

@@ -1,18 +1,10 @@
 use Rattle.sw_disk.specs.Runs.{refusal_of}
 use Rattle.sw_disk.specs.declared.refusal.DiskRefusal.TheVariants.{NoMemory}
-use Rattle.sw_diskfile.specs.Changes.{HasNonePending, IfBothTold}
+use Rattle.sw_diskfile.specs.Changes.{IsMadeStable, IfBothTold}
 use Rattle.sw_diskfile.specs.Normal.{IsTidied}
 use Rattle.sw_diskfile.proofs.Outcomes.{err_refusal, on_ok}
-use Rattle.sw_diskfile.proofs.Tidied.{tidy_before, tidy_changes, tidy_done, tidy_exact, tidy_keeps, tidy_runs, tidy_stable}
+use Rattle.sw_diskfile.proofs.Tidied.{tidy_before, tidy_changes, tidy_done, tidy_exact, tidy_keeps, tidy_others, tidy_stable}
 use Rattle.sw_diskfile.proofs.tidying.tidy.Goals as goal
-
-pub returns-clause-runs : goal.returns-clause-runs
-returns-clause-runs g c =
-    let folder = c.args.folder.now in
-    let disk = c.args.disk.now in
-    tidy_runs g.D.Disk.seen g.D.Disk.left_since folder c.args.is_primary disk c.tidy_by_calls.new.disk
-    (g.met.D.Disk.now disk folder) (g.met.D.Disk.only_now disk folder) (λ since later image. g.met.D.Disk.earlier disk since later folder image)
-    (refusal_of c.tidy_by_calls.result) c.tidy_by_calls.ensures.runs
 
 pub returns-clause-exact : goal.returns-clause-exact
 returns-clause-exact g c =
@@ -59,7 +51,13 @@ pub returns-clause-stable : goal.returns-clause-stable
 returns-clause-stable g c =
     let folder = c.args.folder.now in
     let disk = c.args.disk.now in
-    on_ok c.tidy_by_calls.result (HasNonePending (g.D.Disk.seen c.tidy_by_calls.new.disk).told folder)
+    on_ok c.tidy_by_calls.result (IfBothTold (g.D.Disk.seen disk) (g.D.Disk.seen c.tidy_by_calls.new.disk) folder IsMadeStable)
     (tidy_stable g.D.Disk.seen g.D.Disk.left_since folder c.args.is_primary disk c.tidy_by_calls.new.disk
     (g.met.D.Disk.now disk folder) (g.met.D.Disk.only_now disk folder) (λ since later image. g.met.D.Disk.earlier disk since later folder image)
     (refusal_of c.tidy_by_calls.result) c.tidy_by_calls.ensures.runs)
+
+pub returns-clause-others : goal.returns-clause-others
+returns-clause-others g c =
+    let disk = c.args.disk.now in
+    tidy_others g.D.Disk.seen g.D.Disk.left_since c.args.folder.now c.args.is_primary disk c.tidy_by_calls.new.disk
+    (g.met.D.Disk.now disk) (λ since later name image. g.met.D.Disk.earlier disk since later name image) (refusal_of c.tidy_by_calls.result) c.tidy_by_calls.ensures.runs
