@@ -6,12 +6,13 @@ ghost use Rattle.sw_words.specs.Bytes.{IsBytes};
 ghost use Rattle.sw_cauchy.specs.Linear.{AreIndependent, IsInverse};
 ghost use Rattle.sw_cauchy.specs.Rows.{generator_rows};
 
-/// Any k rows of the generator matrix, no two of them the same row, are independent, and so have an inverse.
+/// Any k rows of the generator matrix, no two of them the same row, are independent, and so have an inverse, on both sides.
 pub fn any_rows_law()
     ensures independent { (k : ℕ) (indices : List ℕ) → k ≤ 256 → length indices ≡ k →
         All (λ i. i < 256) indices → AllPairs (λ i j. i ≢ j) indices →
         AreIndependent k (generator_rows k indices) }
     ensures invertible { (k : ℕ) (indices : List ℕ) → k ≤ 256 → length indices ≡ k →
         All (λ i. i < 256) indices → AllPairs (λ i j. i ≢ j) indices →
-        (inverse : List ℕ) × IsBytes inverse × (length inverse ≡ k * k) × IsInverse k inverse (generator_rows k indices) }
+        (inverse : List ℕ) × IsBytes inverse × (length inverse ≡ k * k) ×
+        IsInverse k inverse (generator_rows k indices) × IsInverse k (generator_rows k indices) inverse }
 {}
