@@ -1,6 +1,7 @@
 -- Bytes have one fault at most, and an archive has none.
 use Rattle.std.proofs.Common.{◌≡◌, ◌≤◌, ◌+◌, inl, inr, List, ℕ, length, Option, Some, None, Result, Ok, Err, sym, ap, subst, ◌∙◌, arith}
 use Rattle.std.specs.Prelude.{MatchResult}
+use Rattle.sw_words.specs.Bytes.{IsBytes}
 use Rattle.sw_words.specs.Memory.{UnlessMemory}
 use Rattle.sw_archive.specs.Archive.{ArchiveModel, IsArchive, IsSound, header_of}
 use Rattle.sw_archive.specs.Fault.{IsFault, IsFirstFault, IsLateFault, Opens, early_fault}
@@ -87,8 +88,8 @@ refused bytes (Err found) answers fault at =
 
 -- what is read behind a header without a fault is the answer
 pub read_behind : (bytes : List ℕ) (h : HeaderModel) (rest : List ℕ) (result : Result Archive ArchiveFault) → 68 ≤ length bytes → Opens bytes h rest → early_fault bytes h ≡ None
-    → length rest + 52 ≡ length bytes → MatchResult result (λ archive. IsReadBehind h rest archive) (λ fault. UnlessMemory NoMemory fault (IsLateFault h rest fault))
+    → length rest + 52 ≡ length bytes → IsBytes rest → MatchResult result (λ archive. IsReadBehind h rest archive) (λ fault. UnlessMemory NoMemory fault (IsLateFault h rest fault))
     → Answers bytes result
-read_behind bytes h rest (Ok archive) long opens none whole read = read_is_archive bytes h rest archive opens (faultless bytes h none) whole read
-read_behind bytes h rest (Err fault) long opens none whole late =
+read_behind bytes h rest (Ok archive) long opens none whole rest_bytes read = read_is_archive bytes h rest archive opens (faultless bytes h none) whole rest_bytes read
+read_behind bytes h rest (Err fault) long opens none whole rest_bytes late =
     λ other. inr (long, record { header = h; rest = rest; opens = opens; first = inr (none, late other) })
