@@ -1,6 +1,7 @@
 //! Laws of the definitions, each the contract of a function without arguments.
 
-ghost use Rattle.std.specs.Prelude.{◌≡◌, ◌<◌, ◌+◌, ◌++◌, List, ℕ, []};
+ghost use Rattle.std.specs.Prelude.{◌≡◌, ◌<◌, ◌+◌, ◌++◌, ◌⊎◌, List, ℕ, []};
+ghost use Rattle.sw_words.specs.Bytes.{IsBytes};
 ghost use Rattle.sw_types.specs.Name.{NameModel};
 ghost use Rattle.sw_types.specs.Object.{ObjectModel};
 ghost use Rattle.sw_types.specs.Policy.{PolicyModel};
@@ -22,8 +23,9 @@ pub fn archive_law()
     ensures no_prefix { (a b rest : List ℕ) (first second : ArchiveModel) → IsArchive a first → IsArchive b second → a ≡ b ++ rest → (first ≡ second) × (rest ≡ []) }
 {}
 
-/// Bytes that are an archive have no fault, and no bytes have two.
+/// Bytes are an archive or have a fault, and not both, and they have one fault at most.
 pub fn fault_law()
+    ensures either { (bytes : List ℕ) → IsBytes bytes → ((archive : ArchiveModel) × IsArchive bytes archive) ⊎ ((fault : Fault) × IsFault bytes fault) }
     ensures not_both { (bytes : List ℕ) (archive : ArchiveModel) (fault : Fault) → IsArchive bytes archive → ¬ (IsFault bytes fault) }
     ensures one { (bytes : List ℕ) (first second : Fault) → IsFault bytes first → IsFault bytes second → first ≡ second }
 {}

@@ -1,4 +1,4 @@
-use Rattle.std.proofs.Common.{rules, ◌≡◌, List, ℕ, take, drop, sym, subst}
+use Rattle.std.proofs.Common.{rules, ◌≡◌, sym, subst}
 use Rattle.sw_words.specs.Bytes.{IsBytes}
 use Rattle.sw_words.proofs.ByteLists.{IsBytes-drop, IsBytes-take}
 use Rattle.sw_archive.proofs.reading.read_behind.Goals as goal
