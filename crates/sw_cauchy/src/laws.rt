@@ -18,7 +18,7 @@ pub fn any_rows_law()
         IsInverse k inverse (generator_rows k indices) × IsInverse k (generator_rows k indices) inverse }
 {}
 
-/// Any k shares of different indices are fragments of some pieces, and of no others.
+/// Any k shares of one width and of different indices are fragments of some pieces, and of no others.
 pub fn any_shares_law()
     ensures some { (k width : ℕ) (shares : List Share) → AreShares k width shares →
         (pieces : List ℕ) × IsBytes pieces × (length pieces ≡ k * width) × AreFragments k width pieces shares }
