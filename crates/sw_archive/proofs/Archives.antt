@@ -1,9 +1,10 @@
 -- The bytes of an archive: its header opens them, and they are those of one archive.
-use Rattle.std.proofs.Common.{◌≡◌, ℕ, ◌+◌, ◌*◌, ◌==◌, ◌||◌, ◌<◌, nat_lt, false, List, [], ◌++◌, length, take, drop, None, refl, sym, ap, ◌∙◌, arith, append_assoc, length-append}
+use Rattle.std.proofs.Common.{◌≡◌, ℕ, ◌+◌, ◌*◌, ◌==◌, ◌||◌, ◌<◌, nat_lt, false, List, [], ◌++◌, length, take, drop, None, refl, sym, ap, subst, ◌∙◌, arith, append_assoc, length-append}
 use Rattle.std.proofs.lemmas.Bool.Decides.{nat_tests}
 use Rattle.std.proofs.lemmas.List.{append-nil, drop_at, nil_from_length, take_at}
 use Rattle.md5.specs.Md5.{md5}
 use Rattle.md5.proofs.StandardFacts.{length-md5}
+use Rattle.sw_words.specs.Bytes.{IsBytes}
 use Rattle.sw_words.proofs.Rules.{kept, passed}
 use Rattle.sw_types.specs.Head.{HeadModel}
 use Rattle.sw_types.specs.Name.{NameModel, path_of}
@@ -21,6 +22,7 @@ use Rattle.sw_archive.proofs.Heads.{length-head, one_head}
 use Rattle.sw_archive.proofs.Openings.{length-opening, one_opening, opening-append}
 use Rattle.sw_archive.proofs.Paths.{length-path, one_name}
 use Rattle.sw_archive.proofs.Payloads.{length-payload, payload_length-le}
+use Rattle.sw_archive.proofs.Pieces.{IsBytes-joined, of_body}
 
 -- ---- the numbers of a code
 
@@ -154,6 +156,9 @@ pub put_is_archive : (policy : PolicyModel) (stamp : ℕ) (name : NameModel) (ob
     → IsArchive (put_archive policy stamp name object index) (put_fields policy stamp name object index)
 put_is_archive policy stamp name object index put below =
     let b = bounds policy put.policy_rules in
+    let some : 0 < policy.k = omega (arith, b.some_data) in
+    let whole : 0 < policy.segment = omega (arith, b.some_data, b.least_segment) in
+    let pieces = of_body policy.k policy.segment object.body some whole put.object_rules.bytes in
     record {
       sound = record {
         code = code_of_policy policy put.policy_rules;
@@ -163,7 +168,8 @@ put_is_archive policy stamp name object index put below =
         body_md5 = ap length put.object_rules.body_md5 ∙ length-md5 object.body;
         name = put.name_rules;
         head = put.object_rules.head;
-        payload = length-payload policy.k policy.segment object.body index (omega (arith, b.some_data)) (omega (arith, b.some_data, b.least_segment));
+        payload = length-payload policy.k policy.segment object.body index some whole;
+        bytes = subst IsBytes (sym (pieces.fragments index)) (IsBytes-joined policy.k policy.segment (length object.body) pieces.pieces index pieces.are);
       };
       spelled = refl;
     }

@@ -1,7 +1,6 @@
 -- Fragments of archives are gathered and decoded, segment after segment.
-use Rattle.std.proofs.Common.{◌≡◌, ◌≢◌, ◌≤◌, ◌<◌, ℕ, ◌+◌, ◌-◌, ◌*◌, List, [], ◌∷◌, ◌++◌, length, take, drop, map, min, get_or, refl, sym, ap, subst, ◌∙◌, inl, inr, arith, append_assoc, length-take}
+use Rattle.std.proofs.Common.{◌≡◌, ◌≢◌, ◌≤◌, ◌<◌, ℕ, ◌+◌, ◌-◌, ◌*◌, List, [], ◌∷◌, ◌++◌, length, take, drop, map, min, get_or, refl, sym, ap, subst, ◌∙◌, arith, append_assoc, length-take}
 use Rattle.std.specs.List.{All, AllPairs}
-use Rattle.std.proofs.lemmas.Bool.{cases_lt}
 use Rattle.std.proofs.lemmas.List.{append-nil, drop-drop, drop_at, get_or-take, get_or_read, map-append, take_at, take_more}
 use Rattle.std.proofs.lemmas.List.Elements.{All-map}
 use Rattle.sw_words.specs.Bytes.{IsBytes}
@@ -15,7 +14,7 @@ use Rattle.sw_archive.specs.Pieces.{AreOfPieces, ArePieces, IsDecoded, joined_fr
 use Rattle.sw_archive.specs.declared.decoding.Layout.{Layout}
 use Rattle.sw_archive.proofs.Archives.{code_bounds}
 use Rattle.sw_archive.proofs.Objects.{alike_to_first, count_of_first, no_archive}
-use Rattle.sw_archive.proofs.Payloads.{payload_length-last, payload_length-le, payload_length-step, payload_length-zero}
+use Rattle.sw_archive.proofs.Payloads.{payload_length-cut, payload_length-le, payload_length-zero}
 
 -- ---- fragments are gathered
 
@@ -65,22 +64,6 @@ decoded_there k m width offset count archives gather gathered width_is Decoded d
     let same : gather ≡ gather_of k m wide (map (share_at offset wide) archives) = gathered ∙ ap (λ w. gather_of k m w (map (share_at offset w) archives)) width_is in
     subst (λ (g : GatherModel). (pieces : List ℕ) → IsBytes pieces → length pieces ≡ g.k * g.width → AreFragments g.k g.width pieces g.shares → Decoded g.k g.width pieces) same decodes
     pieces bytes whole (shares_are_fragments k wide offset pieces archives have)
-
--- ---- one segment after the other
-
--- a payload's length, cut behind the first segment
-payload_length-cut : (k size total : ℕ) → 0 < k → 0 < size → payload_length k size total ≡ fragment_width k (min size total) + payload_length k size (total - min size total)
-payload_length-cut k size total some whole = elim (cases_lt total size) [
-  | inl short ↦
-      let least : min size total ≡ total = omega arith in
-      let none : total - min size total ≡ 0 = omega arith in
-      payload_length-last k size total short
-      ∙ sym (ap (λ n. fragment_width k n + payload_length k size (total - min size total)) least ∙ ap (λ n. fragment_width k total + payload_length k size n) none
-      ∙ ap (λ n. fragment_width k total + n) (payload_length-zero k size some whole) ∙ omega arith)
-  | inr long ↦
-      let least : min size total ≡ size = omega arith in
-      payload_length-step k size total whole long ∙ sym (ap (λ n. fragment_width k n + payload_length k size (total - n)) least)
-]
 
 -- ---- the layout of archives that stand beside one another
 
@@ -237,10 +220,15 @@ none_left layout archives made_of done offset made pieces over none left =
 
 -- the body of what was decoded
 pub body_decoded : (layout : Layout) (archives : List ArchiveModel) (done offset : ℕ) (body : List ℕ) → AreLaidOut layout archives → layout.total ≤ done
-    → ((pieces : List (List ℕ)) → AreOfPieces archives pieces → AreLeft layout archives (joined_segments layout.size) done offset body pieces) → IsDecoded archives body
-body_decoded layout archives done offset body laid over left = λ pieces of position other below.
-    laid_out_as layout archives laid position other below (λ k size total. body ≡ joined_segments size total pieces)
-    (none_left layout archives (joined_segments layout.size) done offset body pieces over (λ n. refl) (left pieces of))
+    → ((pieces : List (List ℕ)) → AreOfPieces archives pieces → AreLeft layout archives (joined_segments layout.size) done offset body pieces)
+    → (pieces : List (List ℕ)) → AreOfPieces archives pieces → IsDecoded archives body
+body_decoded layout archives done offset body laid over left pieces of = record {
+  pieces = pieces;
+  of = of;
+  joined = λ position other below.
+      laid_out_as layout archives laid position other below (λ k size total. body ≡ joined_segments size total pieces)
+      (none_left layout archives (joined_segments layout.size) done offset body pieces over (λ n. refl) (left pieces of));
+}
 
 -- ---- a whole payload is rebuilt
 
@@ -265,8 +253,8 @@ pub record ArePartRebuilt (layout : Layout) (archives : List ArchiveModel) (inde
 
 -- all of them
 pub rebuilt : (layout : Layout) (archives : List ArchiveModel) (index done offset : ℕ) (old new : List ℕ) → AreLaidOut layout archives → ArePartRebuilt layout archives index done offset old new
-    → layout.total ≤ done → IsRebuilt archives index old new
-rebuilt layout archives index done offset old new laid part over =
+    → layout.total ≤ done → (pieces : List (List ℕ)) → AreOfPieces archives pieces → IsRebuilt archives index old new
+rebuilt layout archives index done offset old new laid part over pieces of =
     let none : layout.total - done ≡ 0 = omega arith in
     let nothing : payload_length layout.code.k layout.size (layout.total - done) ≡ 0 =
     ap (payload_length layout.code.k layout.size) none ∙ payload_length-zero layout.code.k layout.size (omega (arith, layout.code.some_data)) laid.size in
@@ -275,7 +263,9 @@ rebuilt layout archives index done offset old new laid part over =
       added = part.fragments;
       appended = part.appended;
       reach = λ position other below. laid_out_as layout archives laid position other below (λ k size total. length part.fragments ≡ payload_length k size total) reach;
-      rebuilt = λ pieces of position other below.
+      pieces = pieces;
+      of = of;
+      rebuilt = λ position other below.
           laid_out_as layout archives laid position other below (λ k size total. part.fragments ≡ joined_fragments k size total pieces index)
           (none_left layout archives (fragments_at layout index) done offset part.fragments pieces over (λ n. refl) (part.left pieces of));
     }

@@ -1,17 +1,23 @@
--- Bytes have one fault at most, and an archive has none.
-use Rattle.std.proofs.Common.{◌≡◌, ◌≤◌, ◌+◌, inl, inr, List, ℕ, length, Option, Some, None, Result, Ok, Err, sym, ap, subst, ◌∙◌, arith}
+-- Bytes are an archive or have a fault, one at most, and an archive has none.
+use Rattle.std.proofs.Common.{◌≡◌, ◌≤◌, ◌+◌, ◌⊎◌, inl, inr, List, ℕ, length, take, drop, Option, Some, None, Result, Ok, Err, refl, sym, ap, subst, ◌∙◌, arith}
+use Rattle.std.proofs.lemmas.Bool.{cases_eq, cases_lt}
 use Rattle.std.specs.Prelude.{MatchResult}
+use Rattle.sw_words.specs.Bytes.{IsBytes}
 use Rattle.sw_words.specs.Memory.{UnlessMemory}
-use Rattle.sw_archive.specs.Archive.{ArchiveModel, IsArchive, IsSound, header_of}
-use Rattle.sw_archive.specs.Fault.{IsFault, IsFirstFault, IsLateFault, Opens, early_fault}
+use Rattle.sw_words.proofs.ByteLists.{IsBytes-drop, IsBytes-take}
+use Rattle.sw_archive.specs.Archive.{ArchiveModel, IsArchive, IsSound, header_of, payload_length}
+use Rattle.sw_archive.specs.Fault.{IsFault, IsFirstFault, IsLateFault, Opens, early_fault, head_in, path_in}
 use Rattle.sw_archive.specs.Header.{HeaderModel}
 use Rattle.sw_archive.specs.Reading.{IsReadBehind}
 use Rattle.sw_archive.specs.declared.archive.Archive.{Archive}
 use Rattle.sw_archive.specs.declared.fault.ArchiveFault.{ArchiveFault}
-use Rattle.sw_archive.specs.declared.fault.ArchiveFault.TheVariants.{NoMemory}
-use Rattle.sw_archive.proofs.Archives.{archive_opens, behind, head_in-behind, one_archive, path_in-behind}
-use Rattle.sw_archive.proofs.Openings.{one_opening}
-use Rattle.sw_archive.proofs.Readings.{archive_faultless, faultless, no_early_fault, read_is_archive}
+use Rattle.sw_archive.specs.declared.fault.ArchiveFault.TheVariants.{BadField, NoMemory, Short}
+use Rattle.sw_archive.specs.declared.fault.ArchiveField.TheVariants.{Head, Name, Payload}
+use Rattle.sw_archive.proofs.Archives.{archive_of, archive_opens, behind, head_in-behind, one_archive, path_in-behind}
+use Rattle.sw_archive.proofs.Heads.{head_or_none}
+use Rattle.sw_archive.proofs.Openings.{Opened, one_opening, opened}
+use Rattle.sw_archive.proofs.Paths.{none_or_some, path_or_none}
+use Rattle.sw_archive.proofs.Readings.{archive_faultless, bytes_behind, faultless, no_early_fault, read_is_archive}
 
 -- ---- an archive has no fault
 
@@ -20,12 +26,12 @@ no_late_fault archive fault sound (inl name) = name.1 archive.name (record { rul
 no_late_fault archive fault sound (inr (inl head)) = head.2 archive.head (record { rules = sound.head; spelled = head_in-behind archive })
 no_late_fault archive fault sound (inr (inr payload)) = payload.3 sound.payload
 
-none_or_some : {A : Type 0} (o : Option A) (x : A) → o ≡ None → o ≡ Some x → ⊥
-none_or_some o x none some = absurd (cc)
+none_and_some : {A : Type 0} (o : Option A) (x : A) → o ≡ None → o ≡ Some x → ⊥
+none_and_some o x none some = absurd (cc)
 
 no_first_fault : (bytes : List ℕ) (archive : ArchiveModel) (fault : ArchiveFault) → IsArchive bytes archive → IsFirstFault bytes (header_of archive) (behind archive) fault → ⊥
 no_first_fault bytes archive fault is (inl early) =
-    none_or_some (early_fault bytes (header_of archive)) fault (no_early_fault bytes (header_of archive) (archive_faultless bytes archive is)) early
+    none_and_some (early_fault bytes (header_of archive)) fault (no_early_fault bytes (header_of archive) (archive_faultless bytes archive is)) early
 no_first_fault bytes archive fault is (inr late) = no_late_fault archive fault is.sound late.1
 
 -- the first fault behind one opening is that behind another
@@ -57,8 +63,8 @@ one_some o x y first second = cc
 
 one_first_fault : (bytes : List ℕ) (h : HeaderModel) (rest : List ℕ) (a b : ArchiveFault) → IsFirstFault bytes h rest a → IsFirstFault bytes h rest b → a ≡ b
 one_first_fault bytes h rest a b (inl x) (inl y) = one_some (early_fault bytes h) a b x y
-one_first_fault bytes h rest a b (inl x) (inr y) = absurd (none_or_some (early_fault bytes h) a y.0 x)
-one_first_fault bytes h rest a b (inr x) (inl y) = absurd (none_or_some (early_fault bytes h) b x.0 y)
+one_first_fault bytes h rest a b (inl x) (inr y) = absurd (none_and_some (early_fault bytes h) a y.0 x)
+one_first_fault bytes h rest a b (inr x) (inl y) = absurd (none_and_some (early_fault bytes h) b x.0 y)
 one_first_fault bytes h rest a b (inr x) (inr y) = one_late_fault h rest a b x.1 y.1
 
 pub one_fault : (bytes : List ℕ) (a b : ArchiveFault) → IsFault bytes a → IsFault bytes b → a ≡ b
@@ -67,6 +73,54 @@ one_fault bytes a b (inl x) (inr y) = absurd (omega (arith, x.0, y.0))
 one_fault bytes a b (inr x) (inl y) = absurd (omega (arith, x.0, y.0))
 one_fault bytes a b (inr x) (inr y) =
     one_first_fault bytes y.1.header y.1.rest a b (moved bytes a x.1.header y.1.header x.1.rest y.1.rest x.1.opens y.1.opens x.1.first) y.1.first
+
+-- ---- what is no archive has one
+
+-- behind a header there is an archive, or the first fault of what stands there
+archive_or_late : (h : HeaderModel) (rest : List ℕ) → IsBytes rest → ((archive : ArchiveModel) × IsReadBehind h rest archive) ⊎ ((fault : ArchiveFault) × IsLateFault h rest fault)
+archive_or_late h rest are = elim (path_or_none (path_in h rest)) [
+  | inr none ↦ inr (BadField Name, inl (refl, none))
+  | inl name ↦ elim (head_or_none (head_in h rest) (IsBytes-take h.head_length _ (IsBytes-drop h.path_length rest are))) [
+    | inr none ↦ inr (BadField Head, inr (inl (refl, name, none)))
+    | inl head ↦ elim (cases_eq h.payload_length (payload_length h.k h.segment h.body_length)) [
+      | inr other ↦ inr (BadField Payload, inr (inr (refl, name, head, other)))
+      | inl same ↦ inl (
+        archive_of h.k h.m h.index h.segment h.stamp h.body_length h.body_md5 name.0 head.0 (take h.payload_length (drop h.head_length (drop h.path_length rest))),
+        record {
+          k = refl;
+          m = refl;
+          index = refl;
+          segment = refl;
+          stamp = refl;
+          body_length = refl;
+          body_md5 = refl;
+          name = name.1;
+          head = head.1;
+          payload = refl;
+          payload_length = same;
+        },
+      )
+    ]
+  ]
+]
+
+-- of bytes with a header
+archive_or_behind : (bytes : List ℕ) → 68 ≤ length bytes → IsBytes bytes → (o : Opened bytes) → ((archive : ArchiveModel) × IsArchive bytes archive) ⊎ ((fault : ArchiveFault) × IsFault bytes fault)
+archive_or_behind bytes long are o =
+    let rest_bytes : IsBytes o.rest = bytes_behind bytes o.header o.rest o.opens are in
+    elim (none_or_some (early_fault bytes o.header)) [
+      | inr early ↦ inr (early.0, inr (long, record { header = o.header; rest = o.rest; opens = o.opens; first = inl early.1 }))
+      | inl none ↦ elim (archive_or_late o.header o.rest rest_bytes) [
+        | inl read ↦ inl (read.0, read_is_archive bytes o.header o.rest read.0 o.opens (faultless bytes o.header none) o.left rest_bytes read.1)
+        | inr late ↦ inr (late.0, inr (long, record { header = o.header; rest = o.rest; opens = o.opens; first = inr (none, late.1) }))
+      ]
+    ]
+
+pub archive_or_fault : (bytes : List ℕ) → IsBytes bytes → ((archive : ArchiveModel) × IsArchive bytes archive) ⊎ ((fault : ArchiveFault) × IsFault bytes fault)
+archive_or_fault bytes are = elim (cases_lt (length bytes) 68) [
+  | inl short ↦ inr (Short (length bytes), inl (short, refl))
+  | inr long ↦ archive_or_behind bytes long are (opened bytes (omega (arith, long)) are)
+]
 
 -- ---- what reading answers
 
@@ -87,8 +141,8 @@ refused bytes (Err found) answers fault at =
 
 -- what is read behind a header without a fault is the answer
 pub read_behind : (bytes : List ℕ) (h : HeaderModel) (rest : List ℕ) (result : Result Archive ArchiveFault) → 68 ≤ length bytes → Opens bytes h rest → early_fault bytes h ≡ None
-    → length rest + 52 ≡ length bytes → MatchResult result (λ archive. IsReadBehind h rest archive) (λ fault. UnlessMemory NoMemory fault (IsLateFault h rest fault))
+    → length rest + 52 ≡ length bytes → IsBytes rest → MatchResult result (λ archive. IsReadBehind h rest archive) (λ fault. UnlessMemory NoMemory fault (IsLateFault h rest fault))
     → Answers bytes result
-read_behind bytes h rest (Ok archive) long opens none whole read = read_is_archive bytes h rest archive opens (faultless bytes h none) whole read
-read_behind bytes h rest (Err fault) long opens none whole late =
+read_behind bytes h rest (Ok archive) long opens none whole rest_bytes read = read_is_archive bytes h rest archive opens (faultless bytes h none) whole rest_bytes read
+read_behind bytes h rest (Err fault) long opens none whole rest_bytes late =
     λ other. inr (long, record { header = h; rest = rest; opens = opens; first = inr (none, late other) })

@@ -1,16 +1,17 @@
 -- Archives that stand beside one another, one more at a time.
 use Rattle.std.proofs.Common.{◌≡◌, ◌≢◌, ◌≤◌, ◌<◌, ◌+◌, ℕ, List, [], ◌∷◌, ◌++◌, length, length-append, ap, arith}
-use Rattle.std.proofs.lemmas.List.Elements.{All-append, All-from_recursion}
+use Rattle.std.proofs.lemmas.List.Elements.{All-append, All-from_recursion, All-push}
 use Rattle.std.proofs.lemmas.List.Quantifiers.{all_pairs_push}
-use Rattle.sw_archive.specs.Archive.{ArchiveModel}
+use Rattle.sw_archive.specs.Archive.{ArchiveModel, IsSound}
 use Rattle.sw_archive.specs.Assemble.{AreAlike, AreTogether, IsNext, k_of}
 
 -- with one that can stand beside them
-pub AreTogether-push : (archives : List ArchiveModel) (archive : ArchiveModel) → AreTogether archives → IsNext archives archive → AreTogether (archives ++ archive ∷ [])
-AreTogether-push archives archive together next =
+pub AreTogether-push : (archives : List ArchiveModel) (archive : ArchiveModel) → AreTogether archives → IsSound archive → IsNext archives archive → AreTogether (archives ++ archive ∷ [])
+AreTogether-push archives archive together sound next =
     let count : length (archives ++ archive ∷ []) ≡ length archives + 1 = length-append archives (archive ∷ []) in
     let fits = λ (other : ArchiveModel). length (archives ++ archive ∷ []) ≤ other.k in
     record {
+      sound = All-push IsSound archives archive together.sound sound;
       alike = all_pairs_push AreAlike archives archive together.alike next.alike;
       distinct = all_pairs_push (λ (a b : ArchiveModel). a.index ≢ b.index) archives archive together.distinct next.new;
       few = All-append fits archives (archive ∷ [])

@@ -1,18 +1,20 @@
--- Bytes are those of one head.
-use Rattle.std.proofs.Common.{◌≡◌, ◌≤◌, ◌<◌, ◌^◌, ℕ, ◌+◌, ◌*◌, ◌&&◌, Bool, true, false, cond, not, nat_lt, nat_le, List, [], ◌∷◌, ◌++◌, length, length-append, append_assoc, Option, Some, None, refl, sym, ap, ◌∙◌, arith, position}
+-- Bytes are those of one head, or of none.
+use Rattle.std.proofs.Common.{◌≡◌, ◌≤◌, ◌<◌, ◌^◌, ℕ, ◌+◌, ◌*◌, ◌&&◌, ◌⊎◌, Bool, true, false, cond, not, nat_lt, nat_le, List, [], ◌∷◌, ◌++◌, length, length-append, append_assoc, Option, Some, None, zero, suc, refl, sym, ap, ap₂, subst, ◌∙◌, inl, inr, arith, position}
 use Rattle.std.specs.Int.{w16, to_be_bytes}
 use Rattle.std.specs.List.{All, AllByRecursion, flat_map, list_all, position_from}
 use Rattle.std.specs.Prelude.{option_map}
-use Rattle.std.proofs.lemmas.Bool.{and_parts, ltb-false, not-false}
+use Rattle.std.proofs.lemmas.Bool.{and_parts, cases_lt, ltb-false, not-false}
 use Rattle.std.proofs.lemmas.List.{append-nil}
 use Rattle.std.proofs.lemmas.List.Elements.{All-from_recursion}
 use Rattle.std.proofs.lemmas.List.Sums.{sum_by-cons}
 use Rattle.std.proofs.lemmas.Iterator.Adapters.{position_from-zero}
+use Rattle.sw_words.specs.Bytes.{IsBytes}
 use Rattle.sw_words.proofs.Rules.{kept, neither}
 use Rattle.sw_types.specs.Head.{Pair, HeadModel, greatest_overall, greatest_pair_name, greatest_pairs, greatest_text, head_fault, is_content_type, is_name_byte, is_pair_name, is_pair_value, is_plain, overall, pairs_fault}
 use Rattle.sw_types.specs.declared.head.HeadFault.TheVariants.{ContentType, TooManyPairs, PairName, PairValue, Overall}
 use Rattle.sw_archive.specs.Parts.{AreShort, IsHead, head_bytes, pair_bytes}
-use Rattle.sw_archive.proofs.Cuts.{cut, cut_16}
+use Rattle.sw_archive.proofs.Cuts.{cut, cut_16, front_of, number_16}
+use Rattle.sw_archive.proofs.Paths.{none_or_some}
 
 -- ---- what a head without a fault is like
 
@@ -183,3 +185,169 @@ one_head a b a_rules b_rules e =
     let spelled : head_bytes a ≡ to_be_bytes w16 (length b.content_type) ++ (b.content_type ++ (length b.pairs ∷ flat_map pair_bytes b.pairs)) = e ∙ append_assoc (to_be_bytes w16 (length b.content_type)) b.content_type _ in
     let rest = head_rest (head_bytes a) b.content_type _ (length b.pairs) (flat_map pair_bytes b.pairs) a spelled (omega (arith, s.content_type)) refl (record { rules = a_rules; spelled = refl }) in
     (head_only b.content_type b.pairs (length b.pairs) (flat_map pair_bytes b.pairs) [] a rest (sym (append-nil (flat_map pair_bytes b.pairs))) refl s.short).0
+
+-- ---- whether bytes are a head's
+
+-- a text behind its length in two bytes
+record Text (bytes : List ℕ) : Type 0 where
+  text : List ℕ
+  rest : List ℕ
+  split : bytes ≡ to_be_bytes w16 (length text) ++ (text ++ rest)
+  short : length text < 2 ^ 16
+  rest_bytes : IsBytes rest
+
+text_or_none : (bytes : List ℕ) → IsBytes bytes → Text bytes ⊎ ((text rest : List ℕ) → length text < 2 ^ 16 → bytes ≡ to_be_bytes w16 (length text) ++ (text ++ rest) → ⊥)
+text_or_none bytes are = elim (cases_lt (length bytes) 2) [
+  | inl few ↦ inr (λ text rest short e.
+      let two : length (to_be_bytes w16 (length text)) ≡ 2 = refl in
+      omega (arith, few, ap length e, length-append (to_be_bytes w16 (length text)) (text ++ rest), two))
+  | inr enough ↦
+      let count = number_16 bytes enough are in
+      elim (cases_lt (length count.rest) count.number) [
+        | inl few ↦ inr (λ text rest short e.
+            let same = cut_16 count.number (length text) count.rest (text ++ rest) count.fits short (sym count.split ∙ e) in
+            omega (arith, few, same.0, ap length same.1, length-append text rest))
+        | inr long ↦
+            let taken = front_of count.number count.rest long count.rest_bytes in
+            inl (record {
+              text = taken.front;
+              rest = taken.rest;
+              split = count.split ∙ ap (λ n. to_be_bytes w16 n ++ count.rest) (sym taken.long) ∙ ap (λ t. to_be_bytes w16 (length taken.front) ++ t) taken.split;
+              short = omega (arith, taken.long, count.fits);
+              rest_bytes = taken.rest_bytes;
+            })
+      ]
+]
+
+-- a text behind its length in one
+record ShortText (bytes : List ℕ) : Type 0 where
+  text : List ℕ
+  rest : List ℕ
+  split : bytes ≡ length text ∷ (text ++ rest)
+  rest_bytes : IsBytes rest
+
+short_text_or_none : (bytes : List ℕ) → IsBytes bytes → ShortText bytes ⊎ ((text rest : List ℕ) → bytes ≡ length text ∷ (text ++ rest) → ⊥)
+short_text_or_none [] are = inr (λ text rest e. absurd (cc))
+short_text_or_none (count ∷ bytes) are = elim (cases_lt (length bytes) count) [
+  | inl few ↦ inr (λ text rest e.
+      let number : count ≡ length text = cc in
+      let behind : bytes ≡ text ++ rest = cc in
+      omega (arith, few, number, ap length behind, length-append text rest))
+  | inr long ↦
+      let taken = front_of count bytes long (λ position. are (suc position)) in
+      inl (record { text = taken.front; rest = taken.rest; split = ap₂ (λ n t. n ∷ t) (sym taken.long) taken.split; rest_bytes = taken.rest_bytes })
+]
+
+-- a pair at the front of bytes
+record FrontPair (bytes : List ℕ) : Type 0 where
+  pair : Pair
+  rest : List ℕ
+  split : bytes ≡ pair_bytes pair ++ rest
+  short : length pair.1 < 2 ^ 16
+  rest_bytes : IsBytes rest
+
+pair_or_none : (bytes : List ℕ) → IsBytes bytes → FrontPair bytes ⊎ ((pair : Pair) (rest : List ℕ) → length pair.1 < 2 ^ 16 → bytes ≡ pair_bytes pair ++ rest → ⊥)
+pair_or_none bytes are = elim (short_text_or_none bytes are) [
+  | inr none ↦ inr (λ pair rest short e. none pair.0 (to_be_bytes w16 (length pair.1) ++ (pair.1 ++ rest)) (e ∙ simp append_assoc))
+  | inl name ↦ elim (text_or_none name.rest name.rest_bytes) [
+    | inr none ↦ inr (λ pair rest short e. no_pair bytes name.text name.rest pair rest name.split none short e)
+    | inl value ↦ inl (record {
+      pair = (name.text, value.text);
+      rest = value.rest;
+      split = name.split ∙ ap (λ t. length name.text ∷ (name.text ++ t)) value.split ∙ simp append_assoc;
+      short = value.short;
+      rest_bytes = value.rest_bytes;
+    })
+  ]
+]
+
+-- so many pairs at the front of bytes
+record FrontPairs (count : ℕ) (bytes : List ℕ) : Type 0 where
+  pairs : List Pair
+  rest : List ℕ
+  split : bytes ≡ flat_map pair_bytes pairs ++ rest
+  counted : length pairs ≡ count
+  short : AreShort pairs
+
+abbrev NoPairs : ℕ → List ℕ → Type 0
+NoPairs count bytes = (pairs : List Pair) (rest : List ℕ) → length pairs ≡ count → AreShort pairs → bytes ≡ flat_map pair_bytes pairs ++ rest → ⊥
+
+no_first_pair : (count : ℕ) (bytes : List ℕ) → ((pair : Pair) (rest : List ℕ) → length pair.1 < 2 ^ 16 → bytes ≡ pair_bytes pair ++ rest → ⊥) → NoPairs (suc count) bytes
+no_first_pair count bytes none [] rest counted short e = absurd (omega (arith, counted))
+no_first_pair count bytes none (p ∷ ps) rest counted short e = none p (flat_map pair_bytes ps ++ rest) short.0 (e ∙ append_assoc (pair_bytes p) (flat_map pair_bytes ps) rest)
+
+no_other_pairs : (count : ℕ) (bytes : List ℕ) (first : FrontPair bytes) → NoPairs count first.rest → NoPairs (suc count) bytes
+no_other_pairs count bytes first none [] rest counted short e = absurd (omega (arith, counted))
+no_other_pairs count bytes first none (p ∷ ps) rest counted short e =
+    none ps rest (omega (arith, counted)) short.1 (one_pair first.pair p first.rest (flat_map pair_bytes ps ++ rest) first.short short.0 (sym first.split ∙ e ∙ append_assoc (pair_bytes p) (flat_map pair_bytes ps) rest)).1
+
+pairs_or_none : (count : ℕ) (bytes : List ℕ) → IsBytes bytes → FrontPairs count bytes ⊎ NoPairs count bytes
+pairs_or_none zero bytes are = inl (record { pairs = []; rest = bytes; split = refl; counted = refl; short = tt })
+pairs_or_none (suc count) bytes are = elim (pair_or_none bytes are) [
+  | inr none ↦ inr (no_first_pair count bytes none)
+  | inl first ↦ elim (pairs_or_none count first.rest first.rest_bytes) [
+    | inr none ↦ inr (no_other_pairs count bytes first none)
+    | inl others ↦ inl (record {
+      pairs = first.pair ∷ others.pairs;
+      rest = others.rest;
+      split = first.split ∙ ap (λ t. pair_bytes first.pair ++ t) others.split ∙ sym (append_assoc (pair_bytes first.pair) (flat_map pair_bytes others.pairs) others.rest);
+      counted = ap suc others.counted;
+      short = (first.short, others.short);
+    })
+  ]
+]
+
+abbrev IsHeadOrNone : List ℕ → Type 0
+IsHeadOrNone bytes = ((head : HeadModel) × IsHead bytes head) ⊎ ((head : HeadModel) → IsHead bytes head → ⊥)
+
+-- the bytes of a head, regrouped behind its content type
+behind_content : (head : HeadModel) → head_bytes head ≡ to_be_bytes w16 (length head.content_type) ++ (head.content_type ++ (length head.pairs ∷ flat_map pair_bytes head.pairs))
+behind_content head = append_assoc (to_be_bytes w16 (length head.content_type)) head.content_type (length head.pairs ∷ flat_map pair_bytes head.pairs)
+
+-- of a content type and as many pairs as are counted
+of_pairs : (bytes : List ℕ) (content : Text bytes) (count : ℕ) (behind : List ℕ) (got : List Pair) (rest : List ℕ) → content.rest ≡ count ∷ behind → behind ≡ flat_map pair_bytes got ++ rest → length got ≡ count → AreShort got → IsHeadOrNone bytes
+of_pairs bytes content count behind got (x ∷ xs) counted e many short =
+    inr (λ head is.
+    let h = head_rest bytes content.text content.rest count behind head content.split content.short counted is in
+    let none : x ∷ xs ≡ [] = (head_only content.text got count behind (x ∷ xs) head h e many short).1 in
+    absurd (cc))
+of_pairs bytes content count behind got [] counted e many short =
+    let candidate : HeadModel = record { content_type = content.text; pairs = got } in
+    elim (none_or_some (head_fault candidate)) [
+      | inl rules ↦ inl (
+        candidate,
+        record {
+          rules = rules;
+          spelled = content.split ∙ ap (λ t. to_be_bytes w16 (length content.text) ++ (content.text ++ t)) (counted ∙ ap₂ (λ n t. n ∷ t) (sym many) (e ∙ append-nil (flat_map pair_bytes got))) ∙ sym (behind_content candidate);
+        },
+      )
+      | inr broken ↦ inr (λ head is.
+          let h = head_rest bytes content.text content.rest count behind head content.split content.short counted is in
+          let same : head ≡ candidate = (head_only content.text got count behind [] head h e many short).0 in
+          let rules : head_fault candidate ≡ None = subst (λ (a : HeadModel). head_fault a ≡ None) same is.rules in
+          absurd (cc (rules, broken.1)))
+    ]
+
+-- of a content type and what is behind it
+of_content : (bytes : List ℕ) (content : Text bytes) (rest : List ℕ) → content.rest ≡ rest → IsBytes rest → IsHeadOrNone bytes
+of_content bytes content [] is_rest are =
+    inr (λ head is.
+    let s = small head is.rules in
+    let whole = sym content.split ∙ is.spelled ∙ behind_content head in
+    let number = cut_16 (length content.text) (length head.content_type) _ _ content.short (omega (arith, s.content_type)) whole in
+    let behind : [] ≡ length head.pairs ∷ flat_map pair_bytes head.pairs = sym is_rest ∙ (cut content.text head.content_type _ _ number.0 number.1).1 in
+    absurd (cc))
+of_content bytes content (count ∷ behind) is_rest are = elim (pairs_or_none count behind (λ position. are (suc position))) [
+  | inl got ↦ of_pairs bytes content count behind got.pairs got.rest is_rest got.split got.counted got.short
+  | inr none ↦ inr (λ head is.
+      let h = head_rest bytes content.text content.rest count behind head content.split content.short is_rest is in
+      none head.pairs [] h.number h.short h.pairs)
+]
+
+pub head_or_none : (bytes : List ℕ) → IsBytes bytes → ((head : HeadModel) × IsHead bytes head) ⊎ ((head : HeadModel) → IsHead bytes head → ⊥)
+head_or_none bytes are = elim (text_or_none bytes are) [
+  | inl content ↦ of_content bytes content content.rest refl content.rest_bytes
+  | inr none ↦ inr (λ head is.
+      let s = small head is.rules in
+      none head.content_type (length head.pairs ∷ flat_map pair_bytes head.pairs) (omega (arith, s.content_type)) (is.spelled ∙ behind_content head))
+]

@@ -1,3 +1,4 @@
+mod AnyPieces
 pub mod Archives
 mod Cuts
 mod Decisions

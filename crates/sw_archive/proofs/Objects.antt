@@ -1,8 +1,9 @@
--- What archives that stand beside one another give: an object, and further archives.
+-- What archives that stand beside one another give: pieces, an object, and further archives.
 use Rattle.std.proofs.Common.{◌≡◌, ◌<◌, ℕ, zero, suc, ◌+◌, List, [], ◌∷◌, ◌++◌, length, get_or, Result, Ok, Err, refl, sym, ap, subst, ◌∙◌, arith}
 use Rattle.std.specs.List.{All}
-use Rattle.std.proofs.lemmas.List.{get_or_read}
+use Rattle.std.proofs.lemmas.List.{get_or_default, get_or_read}
 use Rattle.md5.specs.Md5.{md5}
+use Rattle.sw_words.specs.Bytes.{IsBytes}
 use Rattle.sw_words.specs.Memory.{UnlessMemory}
 use Rattle.sw_types.specs.Head.{HeadModel}
 use Rattle.sw_types.specs.Name.{NameModel}
@@ -16,8 +17,9 @@ use Rattle.sw_archive.specs.Pieces.{AreOfPieces, ArePieces, IsDecoded, joined_fr
 use Rattle.sw_archive.specs.Put.{AreOfPut, IsPut, put_archive, put_fields}
 use Rattle.sw_archive.specs.declared.assemble.AssembleFault.{AssembleFault}
 use Rattle.sw_archive.specs.declared.assemble.AssembleFault.TheVariants.{BodyMd5, NoMemory}
-use Rattle.sw_archive.proofs.Archives.{same_archive}
-use Rattle.sw_archive.proofs.Pieces.{OfBody, of_body}
+use Rattle.sw_archive.proofs.AnyPieces.{ArePayloads, one_behind, pieces_behind}
+use Rattle.sw_archive.proofs.Archives.{code_bounds, same_archive}
+use Rattle.sw_archive.proofs.Pieces.{IsBytes-joined, OfBody, of_body}
 
 -- ---- the first archive
 
@@ -51,6 +53,74 @@ alike_to_first archives first enough together is zero other below = subst (AreAl
 alike_to_first archives first enough together is (suc position) other below =
     subst (λ (a : ArchiveModel). AreAlike a (get_or archives (suc position) other)) (sym (get_or_read archives 0 first (some_archive archives enough) is other)) (together.alike 0 (suc position) other (omega arith) below)
 
+-- what holds of its numbers holds of those of each
+of_each : (archives : List ArchiveModel) (first : ArchiveModel) → AreEnough archives → AreTogether archives → first ≡ get_or archives 0 first → (position : ℕ) (other : ArchiveModel) → position < length archives
+    → (P : ℕ → ℕ → ℕ → Type 0) → P first.k first.segment first.body_length → let at = get_or archives position other in P at.k at.segment at.body_length
+of_each archives first enough together is position other below P holds = subst (λ (a : ArchiveModel). P a.k a.segment a.body_length) (alike_to_first archives first enough together is position other below) holds
+
+-- and the other way round
+of_first : (archives : List ArchiveModel) (first : ArchiveModel) → AreEnough archives → AreTogether archives → first ≡ get_or archives 0 first → (position : ℕ) (other : ArchiveModel) → position < length archives
+    → (P : ℕ → ℕ → ℕ → Type 0) → let at = get_or archives position other in P at.k at.segment at.body_length → P first.k first.segment first.body_length
+of_first archives first enough together is position other below P holds = subst (λ (a : ArchiveModel). P a.k a.segment a.body_length) (sym (alike_to_first archives first enough together is position other below)) holds
+
+-- ---- pieces
+
+-- their payloads, as long as the first one tells
+payloads_of : (archives : List ArchiveModel) (first : ArchiveModel) → AreEnough archives → AreTogether archives → first ≡ get_or archives 0 first → ArePayloads first.k first.segment first.body_length 0 archives
+payloads_of archives first enough together is =
+    let sound : IsSound first = subst IsSound (sym is) (together.sound 0 first (some_archive archives enough)) in
+    let bounds = code_bounds first.k first.m first.segment sound.code in
+    record {
+      small = omega (arith, bounds.total);
+      some = omega (arith, bounds.some_data);
+      whole = omega (arith, bounds.some_data, bounds.least_segment);
+      count = count_of_first archives first enough is;
+      below = λ position other below.
+          let one = together.sound position other below in
+          omega (arith, one.index, (code_bounds (get_or archives position other).k (get_or archives position other).m (get_or archives position other).segment one.code).total);
+      distinct = together.distinct;
+      bytes = λ position other below. (together.sound position other below).bytes;
+      reach = λ position other below.
+          let at = get_or archives position other in
+          of_first archives first enough together is position other below (λ k size total. length at.payload ≡ payload_length k size total) (together.sound position other below).payload;
+    }
+
+-- so they are of some pieces
+pub some_together : (archives : List ArchiveModel) → AreEnough archives → AreTogether archives → (pieces : List (List ℕ)) × AreOfPieces archives pieces
+some_together archives enough together =
+    let first : ArchiveModel = get_or archives 0 no_archive in
+    let is : first ≡ get_or archives 0 first = get_or_default archives 0 no_archive first (some_archive archives enough) in
+    let found = pieces_behind first.body_length first.k first.segment first.body_length 0 archives (payloads_of archives first enough together is) (omega arith) in (
+      found.0,
+      (λ position other below.
+          let at = get_or archives position other in
+          of_each archives first enough together is position other below (λ k size total. ArePieces k size total found.0 × (at.payload ≡ joined_fragments k size total found.0 at.index)) (found.1, found.2 position other below)),
+    )
+
+-- and of no others
+pub one_together : (archives : List ArchiveModel) (a b : List (List ℕ)) → AreEnough archives → AreTogether archives → AreOfPieces archives a → AreOfPieces archives b → a ≡ b
+one_together archives a b enough together a_of b_of =
+    let some = some_archive archives enough in
+    let first : ArchiveModel = get_or archives 0 no_archive in
+    let is : first ≡ get_or archives 0 first = get_or_default archives 0 no_archive first some in
+    let have = λ (pieces : List (List ℕ)) (of : AreOfPieces archives pieces) (position : ℕ) (other : ArchiveModel) (below : position < length archives).
+    let at = get_or archives position other in
+    of_first archives first enough together is position other below (λ k size total. at.payload ≡ joined_fragments k size total pieces at.index) (of position other below).1 in
+    one_behind first.k first.segment first.body_length 0 archives (payloads_of archives first enough together is) a b (a_of 0 no_archive some).0 (b_of 0 no_archive some).0 (have a a_of) (have b b_of)
+
+-- the body that they hold is the segments of whatever pieces they are of
+joined_from : (archives : List ArchiveModel) (body : List ℕ) → AreEnough archives → AreTogether archives → IsDecoded archives body
+    → (pieces : List (List ℕ)) → AreOfPieces archives pieces → All (λ archive. body ≡ joined_segments archive.segment archive.body_length pieces) archives
+joined_from archives body enough together decoded pieces of =
+    subst (λ (pieces : List (List ℕ)). All (λ (archive : ArchiveModel). body ≡ joined_segments archive.segment archive.body_length pieces) archives)
+    (one_together archives decoded.pieces pieces enough together decoded.of of) decoded.joined
+
+-- so it is one
+pub one_body : (archives : List ArchiveModel) (a b : List ℕ) → AreEnough archives → AreTogether archives → IsDecoded archives a → IsDecoded archives b → a ≡ b
+one_body archives a b enough together a_decoded b_decoded =
+    let some = some_archive archives enough in
+    joined_from archives a enough together a_decoded b_decoded.pieces b_decoded.of 0 no_archive some ∙ sym (b_decoded.joined 0 no_archive some)
+
 -- ---- an object
 
 abbrev object : HeadModel → List ℕ → List ℕ → ObjectModel
@@ -81,30 +151,30 @@ of_pieces policy stamp name object archives put of = λ position other below.
     (pieces.are, pieces.fragments at.index)
 
 -- what a put's archives hold is its body
-pub decoded_of_put : (policy : PolicyModel) (stamp : ℕ) (name : NameModel) (object : ObjectModel) (archives : List ArchiveModel) (body : List ℕ) → AreEnough archives
+pub decoded_of_put : (policy : PolicyModel) (stamp : ℕ) (name : NameModel) (object : ObjectModel) (archives : List ArchiveModel) (body : List ℕ) → AreEnough archives → AreTogether archives
     → (put : IsPut policy stamp name object) → AreOfPut policy stamp name object archives → IsDecoded archives body → body ≡ object.body
-decoded_of_put policy stamp name object archives body enough put of decoded =
+decoded_of_put policy stamp name object archives body enough together put of decoded =
     let some = some_archive archives enough in
     let pieces = pieces_of policy stamp name object put in
     subst (λ (a : ArchiveModel). body ≡ joined_segments a.segment a.body_length pieces.pieces) (put_told policy stamp name object archives of enough)
-    (decoded pieces.pieces (of_pieces policy stamp name object archives put of) 0 no_archive some)
+    (joined_from archives body enough together decoded pieces.pieces (of_pieces policy stamp name object archives put of) 0 no_archive some)
     ∙ pieces.segments
 
 -- of a put's archives the answer is the object
-pub object_of_put : (archives : List ArchiveModel) (result : Result ObjectModel AssembleFault) → GivesObject archives result → AreEnough archives
+pub object_of_put : (archives : List ArchiveModel) (result : Result ObjectModel AssembleFault) → GivesObject archives result → AreEnough archives → AreTogether archives
     → (policy : PolicyModel) (stamp : ℕ) (name : NameModel) (object : ObjectModel) → IsPut policy stamp name object → AreOfPut policy stamp name object archives
     → UnlessMemory (Err NoMemory) result (result ≡ Ok object)
-object_of_put archives (Ok read) gives enough policy stamp name object put of = λ other.
+object_of_put archives (Ok read) gives enough together policy stamp name object put of = λ other.
     let some = some_archive archives enough in
     let first = put_told policy stamp name object archives of enough in
     ap (λ (o : ObjectModel). Ok o)
-    (same_object read object (gives.head 0 no_archive some ∙ ap (λ (a : ArchiveModel). a.head) first) (decoded_of_put policy stamp name object archives read.body enough put of gives.decoded)
+    (same_object read object (gives.head 0 no_archive some ∙ ap (λ (a : ArchiveModel). a.head) first) (decoded_of_put policy stamp name object archives read.body enough together put of gives.decoded)
     (gives.body_md5 0 no_archive some ∙ ap (λ (a : ArchiveModel). a.body_md5) first))
-object_of_put archives (Err (BodyMd5 told computed)) gives enough policy stamp name object put of = λ other.
+object_of_put archives (Err (BodyMd5 told computed)) gives enough together policy stamp name object put of = λ other.
     let first = put_told policy stamp name object archives of enough in
     absurd (gives.differs (gives.tells 0 no_archive (some_archive archives enough) ∙ ap (λ (a : ArchiveModel). a.body_md5) first ∙ put.object_rules.body_md5
-    ∙ sym (gives.computes ∙ ap md5 (decoded_of_put policy stamp name object archives gives.body enough put of gives.decoded))))
-object_of_put archives (Err NoMemory) gives enough policy stamp name object put of = λ other. absurd (other refl)
+    ∙ sym (gives.computes ∙ ap md5 (decoded_of_put policy stamp name object archives gives.body enough together put of gives.decoded))))
+object_of_put archives (Err NoMemory) gives enough together policy stamp name object put of = λ other. absurd (other refl)
 
 -- ---- a further archive
 
@@ -121,6 +191,9 @@ further_archive archives first index old new bytes enough together is sound belo
     let archive : ArchiveModel = record first { index = index; payload = rebuilt.added } in
     let written : new ≡ checked archive = rebuilt.appended ∙ opens rebuilt.added reach in
     let alike = alike_to_first archives first enough together is in
+    let are : ArePieces first.k first.segment first.body_length rebuilt.pieces = subst (λ (a : ArchiveModel). ArePieces a.k a.segment a.body_length rebuilt.pieces) there (rebuilt.of 0 first some).0 in
+    let added : rebuilt.added ≡ joined_fragments first.k first.segment first.body_length rebuilt.pieces index =
+    subst (λ (a : ArchiveModel). rebuilt.added ≡ joined_fragments a.k a.segment a.body_length rebuilt.pieces index) there (rebuilt.rebuilt 0 first some) in
     record {
       archive = archive;
       spelled = record {
@@ -133,6 +206,7 @@ further_archive archives first index old new bytes enough together is sound belo
           name = sound.name;
           head = sound.head;
           payload = reach;
+          bytes = subst IsBytes (sym added) (IsBytes-joined first.k first.segment first.body_length rebuilt.pieces index are);
         };
         spelled = sealed ∙ ap (λ (b : List ℕ). b ++ md5 b) written;
       };
@@ -143,15 +217,16 @@ further_archive archives first index old new bytes enough together is sound belo
           same_archive at (record archive { index = at.index; payload = at.payload }) (sym (ap (λ (a : ArchiveModel). a.k) same)) (sym (ap (λ (a : ArchiveModel). a.m) same)) refl
           (sym (ap (λ (a : ArchiveModel). a.segment) same)) (sym (ap (λ (a : ArchiveModel). a.stamp) same)) (sym (ap (λ (a : ArchiveModel). a.body_length) same))
           (sym (ap (λ (a : ArchiveModel). a.body_md5) same)) (sym (ap (λ (a : ArchiveModel). a.name) same)) (sym (ap (λ (a : ArchiveModel). a.head) same)) refl;
-      rebuilt = λ pieces of.
-          subst (λ (a : ArchiveModel). rebuilt.added ≡ joined_fragments a.k a.segment a.body_length pieces index) there (rebuilt.rebuilt pieces of 0 first some);
+      pieces = rebuilt.pieces;
+      of = rebuilt.of;
+      rebuilt = added;
     }
 
 -- of a put's archives it is that of the put
-pub further_of_put : (archives : List ArchiveModel) (index : ℕ) (bytes : List ℕ) → IsFurther archives index bytes → AreEnough archives
+pub further_of_put : (archives : List ArchiveModel) (index : ℕ) (bytes : List ℕ) → IsFurther archives index bytes → AreEnough archives → AreTogether archives
     → (policy : PolicyModel) (stamp : ℕ) (name : NameModel) (object : ObjectModel) → IsPut policy stamp name object → AreOfPut policy stamp name object archives
     → bytes ≡ put_archive policy stamp name object index
-further_of_put archives index bytes further enough policy stamp name object put of =
+further_of_put archives index bytes further enough together policy stamp name object put of =
     let archive = further.archive in
     let first = put_told policy stamp name object archives of enough in
     let alike = further.alike 0 no_archive (some_archive archives enough) in
@@ -159,7 +234,9 @@ further_of_put archives index bytes further enough policy stamp name object put 
     let segment : archive.segment ≡ policy.segment = sym (ap (λ (a : ArchiveModel). a.segment) alike) ∙ ap (λ (a : ArchiveModel). a.segment) first in
     let length_is : archive.body_length ≡ length object.body = sym (ap (λ (a : ArchiveModel). a.body_length) alike) ∙ ap (λ (a : ArchiveModel). a.body_length) first in
     let pieces = pieces_of policy stamp name object put in
-    let fragments = further.rebuilt pieces.pieces (of_pieces policy stamp name object archives put of)
+    let fragments = further.rebuilt
+    ∙ ap (λ (p : List (List ℕ)). joined_fragments archive.k archive.segment archive.body_length p index)
+    (one_together archives further.pieces pieces.pieces enough together further.of (of_pieces policy stamp name object archives put of))
     ∙ ap (λ n. joined_fragments n archive.segment archive.body_length pieces.pieces index) k ∙ ap (λ n. joined_fragments policy.k n archive.body_length pieces.pieces index) segment
     ∙ ap (λ n. joined_fragments policy.k policy.segment n pieces.pieces index) length_is ∙ sym (pieces.fragments index) in
     further.spelled.spelled

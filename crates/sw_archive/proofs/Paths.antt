@@ -1,6 +1,6 @@
--- A path is that of one name.
-use Rattle.std.proofs.Common.{◌≡◌, ◌≤◌, ◌<◌, ℕ, ◌==◌, ◌&&◌, ◌||◌, Bool, true, false, not, nat_lt, List, [], ◌∷◌, ◌++◌, length, length-append, append_assoc, None, refl, sym, ap, ◌∙◌, arith, eq-eqb}
-use Rattle.std.proofs.lemmas.Bool.{ltb-false, or_parts}
+-- A path is that of one name, or of none.
+use Rattle.std.proofs.Common.{◌≡◌, ◌≤◌, ◌<◌, ℕ, ◌==◌, ◌&&◌, ◌||◌, ◌⊎◌, Bool, true, false, not, nat_lt, List, [], ◌∷◌, ◌++◌, length, length-append, append_assoc, Option, Some, None, refl, sym, ap, ap₂, subst, ◌∙◌, inl, inr, arith, eq-eqb, eqb-true}
+use Rattle.std.proofs.lemmas.Bool.{cases_Bool, ltb-false, or_parts}
 use Rattle.std.proofs.Math.Bool.{or-true}
 use Rattle.std.specs.List.{list_any}
 use Rattle.std.specs.Str.{is_utf8}
@@ -123,3 +123,65 @@ pub one_name : (a b : NameModel) → name_fault a ≡ None → name_fault b ≡ 
 one_name a b a_rules b_rules e =
     parts_only (path_of a) [] _ b.account _ b.container b.object a (e ∙ regrouped b) refl refl ((named b b_rules).account.plain refl) refl ((named b b_rules).container.plain refl)
     (record { rules = a_rules; spelled = refl })
+
+-- ---- whether a path is a name's
+
+pub none_or_some : {A : Type 0} (o : Option A) → (o ≡ None) ⊎ ((x : A) × (o ≡ Some x))
+none_or_some None = inl refl
+none_or_some (Some x) = inr (x, refl)
+
+-- what stands before the first slash, and what behind it
+record Cut (text : List ℕ) : Type 0 where
+  before : List ℕ
+  rest : List ℕ
+  split : text ≡ before ++ 47 ∷ rest
+  plain : has_slash before ≡ false
+
+cut_text : (text : List ℕ) → Cut text ⊎ (has_slash text ≡ false)
+cut_text [] = inr refl
+cut_text (byte ∷ text) = elim (cases_Bool (byte == 47)) [
+  | inl here ↦ inl (record { before = []; rest = text; split = ap (λ b. b ∷ text) (eqb-true byte 47 here); plain = refl })
+  | inr other ↦ elim (cut_text text) [
+    | inl later ↦ inl (record { before = byte ∷ later.before; rest = later.rest; split = ap (λ t. byte ∷ t) later.split; plain = ap₂ (λ a b. a || b) other later.plain })
+    | inr none ↦ inr (ap₂ (λ a b. a || b) other none)
+  ]
+]
+
+abbrev IsPathOrNone : List ℕ → Type 0
+IsPathOrNone path = ((name : NameModel) × IsPath path name) ⊎ ((name : NameModel) → IsPath path name → ⊥)
+
+-- of three parts behind a slash
+behind_slash : (path before rest account tail container object : List ℕ)
+    → path ≡ before ++ 47 ∷ rest → has_slash before ≡ false → rest ≡ account ++ 47 ∷ tail → has_slash account ≡ false → tail ≡ container ++ 47 ∷ object → has_slash container ≡ false
+    → IsPathOrNone path
+behind_slash path (b ∷ bs) rest account tail container object e0 p0 e1 p1 e2 p2 =
+    inr (λ name is. let none : b ∷ bs ≡ [] = (after_front path (b ∷ bs) rest name e0 p0 is).0 in absurd (cc))
+behind_slash path [] rest account tail container object e0 p0 e1 p1 e2 p2 =
+    let candidate = name_of account container object in
+    elim (none_or_some (name_fault candidate)) [
+      | inl rules ↦ inl (candidate, record { rules = rules; spelled = e0 ∙ ap (λ t. 47 ∷ t) (e1 ∙ ap (λ t. account ++ 47 ∷ t) e2) ∙ sym (regrouped candidate) })
+      | inr broken ↦ inr (λ name is.
+          let same : name ≡ candidate = parts_only path [] rest account tail container object name e0 p0 e1 p1 e2 p2 is in
+          let rules : name_fault candidate ≡ None = subst (λ (n : NameModel). name_fault n ≡ None) same is.rules in
+          absurd (cc (rules, broken.1)))
+    ]
+
+-- behind the first slash
+behind_front : (path : List ℕ) (front : Cut path) → IsPathOrNone path
+behind_front path front = elim (cut_text front.rest) [
+  | inr none ↦ inr (λ name is.
+      let after = (after_front path front.before front.rest name front.split front.plain is).1 in
+      let slash : has_slash front.rest ≡ true = ap has_slash after ∙ has_slash-middle name.account (name.container ++ 47 ∷ name.object) in
+      absurd (cc (slash, none)))
+  | inl account ↦ elim (cut_text account.rest) [
+    | inr none ↦ inr (λ name is. parts_none path front.before front.rest account.before account.rest name front.split front.plain account.split account.plain none is)
+    | inl container ↦
+        behind_slash path front.before front.rest account.before account.rest container.before container.rest front.split front.plain account.split account.plain container.split container.plain
+  ]
+]
+
+pub path_or_none : (path : List ℕ) → ((name : NameModel) × IsPath path name) ⊎ ((name : NameModel) → IsPath path name → ⊥)
+path_or_none path = elim (cut_text path) [
+  | inl front ↦ behind_front path front
+  | inr none ↦ inr (λ name is. let slash : has_slash path ≡ true = ap has_slash (is.spelled ∙ regrouped name) in absurd (cc (slash, none)))
+]

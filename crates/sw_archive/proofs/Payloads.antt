@@ -50,6 +50,20 @@ payload_length-last k size total short =
 pub payload_length-zero : (k size : ℕ) → 0 < k → 0 < size → payload_length k size 0 ≡ 0
 payload_length-zero k size some whole = payload_length-last k size 0 whole ∙ fragment_width-zero k some
 
+-- a payload's length, cut behind the first segment
+pub payload_length-cut : (k size total : ℕ) → 0 < k → 0 < size → payload_length k size total ≡ fragment_width k (min size total) + payload_length k size (total - min size total)
+payload_length-cut k size total some whole = elim (cases_lt total size) [
+  | inl short ↦
+      let least : min size total ≡ total = omega arith in
+      let none : total - min size total ≡ 0 = omega arith in
+      payload_length-last k size total short
+      ∙ sym (ap (λ n. fragment_width k n + payload_length k size (total - min size total)) least ∙ ap (λ n. fragment_width k total + payload_length k size n) none
+      ∙ ap (λ n. fragment_width k total + n) (payload_length-zero k size some whole) ∙ omega arith)
+  | inr long ↦
+      let least : min size total ≡ size = omega arith in
+      payload_length-step k size total whole long ∙ sym (ap (λ n. fragment_width k n + payload_length k size (total - n)) least)
+]
+
 pub payload_length-le : (k size total : ℕ) → 0 < k → 0 < size → payload_length k size total ≤ total
 payload_length-le k size total some whole =
     let many : total / size * fragment_width k size ≤ total / size * size = mul-le-mul_left (total / size) (fragment_width-le k size some) in

@@ -1,14 +1,21 @@
--- The pieces of a put's segments: each with zeros behind it.
+-- Pieces and their fragments; the pieces of a put's segments: each with zeros behind it.
 use Rattle.std.proofs.Common.{◌≡◌, ℕ, zero, suc, ◌-◌, ◌*◌, ◌<◌, ◌≤◌, List, [], ◌∷◌, ◌++◌, length, take, drop, min, sym, ap, subst, ◌∙◌, inl, inr, arith, length-drop, length-take}
 use Rattle.std.proofs.lemmas.Bool.{cases_lt}
 use Rattle.std.proofs.lemmas.List.{nil_from_length, take-append-drop}
 use Rattle.sw_words.specs.Bytes.{IsBytes}
-use Rattle.sw_words.proofs.ByteLists.{IsBytes-drop, IsBytes-take}
+use Rattle.sw_words.proofs.ByteLists.{IsBytes-append, IsBytes-drop, IsBytes-none, IsBytes-take}
 use Rattle.sw_cauchy.specs.Stripe.{fragment, fragment_width, padded}
-use Rattle.sw_cauchy.proofs.Fragments.{IsBytes-padded, length-padded, take-padded}
+use Rattle.sw_cauchy.proofs.Fragments.{IsBytes-fragment, IsBytes-padded, length-padded, take-padded}
 use Rattle.sw_archive.specs.Pieces.{ArePieces, joined_fragments, joined_segments}
 use Rattle.sw_archive.specs.Put.{payload}
 use Rattle.sw_archive.proofs.Payloads.{payload-nil, payload-step}
+
+-- fragments of pieces, joined, are bytes
+pub IsBytes-joined : (k size total : ℕ) (pieces : List (List ℕ)) (index : ℕ) → ArePieces k size total pieces → IsBytes (joined_fragments k size total pieces index)
+IsBytes-joined k size total [] index are = IsBytes-none
+IsBytes-joined k size total (first ∷ others) index are =
+    IsBytes-append (fragment k (fragment_width k (min size total)) first index) (joined_fragments k size (total - size) others index)
+    (IsBytes-fragment k (fragment_width k (min size total)) first index are.1) (IsBytes-joined k size (total - size) others index are.3)
 
 -- the pieces of a body: its payloads have their fragments, and it is their segments
 pub record OfBody (k size : ℕ) (body : List ℕ) : Type 0 where

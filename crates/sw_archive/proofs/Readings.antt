@@ -1,11 +1,13 @@
 -- What is read behind a header without a fault is an archive.
-use Rattle.std.proofs.Common.{◌≡◌, ◌+◌, ◌-◌, ◌==◌, ◌&&◌, ℕ, not, nat_lt, nat_eq, List, ◌++◌, length, take, drop, Option, Some, None, true, refl, sym, ap, subst, ◌∙◌, arith, append_assoc, length-append, length-take, length-drop, eqb-true, eq-eqb}
+use Rattle.std.proofs.Common.{◌≡◌, ◌+◌, ◌-◌, ◌==◌, ◌&&◌, ℕ, not, nat_lt, nat_eq, List, [], ◌++◌, length, take, drop, Option, Some, None, true, refl, sym, ap, subst, ◌∙◌, arith, append_assoc, length-append, length-take, length-drop, eqb-true, eq-eqb}
 use Rattle.std.specs.Cmp.Lexicographic.{pointwise}
 use Rattle.std.specs.Prelude.{is_none}
 use Rattle.std.proofs.lemmas.Bool.{and_parts, le-ltb, lt-ltb, ltb-false, ltb-true, not-false}
 use Rattle.std.proofs.lemmas.List.{drop_at, take-append-drop, take_at}
 use Rattle.md5.specs.Md5.{md5}
 use Rattle.md5.proofs.StandardFacts.{length-md5}
+use Rattle.sw_words.specs.Bytes.{IsBytes}
+use Rattle.sw_words.proofs.ByteLists.{IsBytes-drop, IsBytes-take}
 use Rattle.sw_words.proofs.Rules.{kept, passed}
 use Rattle.sw_types.specs.Object.{greatest_body}
 use Rattle.sw_types.specs.Stamp.{greatest_stamp}
@@ -98,6 +100,12 @@ archive_faultless bytes archive is =
 
 -- ---- what is read behind a header
 
+-- it is bytes, where the whole is
+pub bytes_behind : (bytes : List ℕ) (h : HeaderModel) (rest : List ℕ) → Opens bytes h rest → IsBytes bytes → IsBytes rest
+bytes_behind bytes h rest opens are =
+    let split : bytes ≡ opening h [] ++ rest = opens.spelled ∙ sym (opening-append h [] rest) in
+    subst IsBytes (ap (drop (length (opening h []))) split ∙ drop_at (opening h []) rest _ refl) (IsBytes-drop (length (opening h [])) bytes are)
+
 abbrev payload_in : HeaderModel → List ℕ → List ℕ
 payload_in h rest = take h.payload_length (drop h.head_length (drop h.path_length rest))
 
@@ -121,8 +129,8 @@ header_is h rest archive read magic_is version_is told =
     (ap length read.payload ∙ omega (arith, length-take h.payload_length (drop h.head_length (drop h.path_length rest)), behind_path, behind_head))
 
 pub read_is_archive : (bytes : List ℕ) (h : HeaderModel) (rest : List ℕ) (archive : ArchiveModel) → Opens bytes h rest → IsFaultless bytes h → length rest + 52 ≡ length bytes
-    → IsReadBehind h rest archive → IsArchive bytes archive
-read_is_archive bytes h rest archive opens faultless whole read =
+    → IsBytes rest → IsReadBehind h rest archive → IsArchive bytes archive
+read_is_archive bytes h rest archive opens faultless whole rest_bytes read =
     let told : length rest + 52 ≡ told_length h = omega (arith, whole, faultless.length) in
     let header : header_of archive ≡ h = header_is h rest archive read faultless.magic faultless.version told in
     let tail : List ℕ = tail_in h rest in
@@ -141,6 +149,7 @@ read_is_archive bytes h rest archive opens faultless whole read =
         name = read.name.rules;
         head = read.head.rules;
         payload = ap (λ (x : HeaderModel). x.payload_length) header ∙ read.payload_length ∙ rw (read.k, read.segment, read.body_length) refl;
+        bytes = subst IsBytes (sym read.payload) (IsBytes-take h.payload_length _ (IsBytes-drop h.head_length _ (IsBytes-drop h.path_length rest rest_bytes)));
       };
       spelled = subst (λ (x : HeaderModel). bytes ≡ opening x (middle archive) ++ md5 (opening x (middle archive))) (sym header)
           (bytes_are ∙ ap (λ t. opening h (middle archive) ++ t) digest);

@@ -1,6 +1,7 @@
 -- Archives, version 1.
 use Rattle.std.specs.Prelude.{◌≡◌, ℕ, ◌+◌, ◌*◌, ◌/◌, ◌%◌, ◌<◌, ◌≤◌, List, ◌++◌, length, codes, None}
 use Rattle.md5.specs.Md5.{md5}
+use Rattle.sw_words.specs.Bytes.{IsBytes}
 use Rattle.sw_types.specs.Head.{HeadModel, head_fault}
 use Rattle.sw_types.specs.Name.{NameModel, name_fault, path_of}
 use Rattle.sw_types.specs.Object.{greatest_body}
@@ -69,6 +70,7 @@ pub record IsSound (archive : ArchiveModel) : Type 0 where
   pub name : name_fault archive.name ≡ None
   pub head : head_fault archive.head ≡ None
   pub payload : length archive.payload ≡ payload_length archive.k archive.segment archive.body_length
+  pub bytes : IsBytes archive.payload
 
 -- the bytes are this archive's
 pub record IsArchive (bytes : List ℕ) (archive : ArchiveModel) : Type 0 where

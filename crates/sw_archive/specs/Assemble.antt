@@ -3,7 +3,7 @@ use Rattle.std.specs.Prelude.{◌≡◌, ◌≢◌, ◌<◌, ◌≤◌, ℕ, Lis
 use Rattle.std.specs.List.{All, AllPairs}
 use Rattle.md5.specs.Md5.{md5}
 use Rattle.sw_types.specs.Object.{ObjectModel}
-use Rattle.sw_archive.specs.Archive.{ArchiveModel, IsArchive}
+use Rattle.sw_archive.specs.Archive.{ArchiveModel, IsArchive, IsSound}
 use Rattle.sw_archive.specs.Pieces.{AreOfPieces, IsDecoded, joined_fragments}
 use Rattle.sw_archive.specs.declared.assemble.AssembleFault.{AssembleFault}
 use Rattle.sw_archive.specs.declared.assemble.AssembleFault.TheVariants.{BodyMd5, NoMemory}
@@ -23,8 +23,9 @@ pub record IsNext (archives : List ArchiveModel) (archive : ArchiveModel) : Type
   pub new : All (λ other. other.index ≢ archive.index) archives
   pub few : length archives < archive.k
 
--- archives that stand beside one another: alike, of different indices, at most k
+-- archives that stand beside one another: each within its bounds, alike, of different indices, at most k
 pub record AreTogether (archives : List ArchiveModel) : Type 0 where
+  pub sound : All IsSound archives
   pub alike : AllPairs AreAlike archives
   pub distinct : AllPairs (λ a b. a.index ≢ b.index) archives
   pub few : All (λ archive. length archives ≤ archive.k) archives
@@ -61,11 +62,12 @@ GivesObject archives (Ok object) = IsTold archives object
 GivesObject archives (Err (BodyMd5 told computed)) = IsOther archives told computed
 GivesObject archives (Err NoMemory) = ⊤
 
--- the bytes are an archive of this index beside these, and its payload has the fragments of the pieces that theirs are of
+-- the bytes are an archive of this index beside these, and its payload has the fragments of the pieces that these are of
 pub record IsFurther (archives : List ArchiveModel) (index : ℕ) (bytes : List ℕ) : Type 0 where
   pub archive : ArchiveModel
   pub spelled : IsArchive bytes archive
   pub indexed : archive.index ≡ index
   pub alike : All (λ other. AreAlike other archive) archives
-  pub rebuilt : (pieces : List (List ℕ)) → AreOfPieces archives pieces →
-      archive.payload ≡ joined_fragments archive.k archive.segment archive.body_length pieces index
+  pub pieces : List (List ℕ)
+  pub of : AreOfPieces archives pieces
+  pub rebuilt : archive.payload ≡ joined_fragments archive.k archive.segment archive.body_length pieces index

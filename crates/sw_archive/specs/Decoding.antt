@@ -45,4 +45,6 @@ pub record IsRebuilt (archives : List ArchiveModel) (index : ℕ) (old new : Lis
   pub added : List ℕ
   pub appended : new ≡ old ++ added
   pub reach : All (λ archive. length added ≡ payload_length archive.k archive.segment archive.body_length) archives
-  pub rebuilt : (pieces : List (List ℕ)) → AreOfPieces archives pieces → All (λ archive. added ≡ joined_fragments archive.k archive.segment archive.body_length pieces index) archives
+  pub pieces : List (List ℕ)
+  pub of : AreOfPieces archives pieces
+  pub rebuilt : All (λ archive. added ≡ joined_fragments archive.k archive.segment archive.body_length pieces index) archives

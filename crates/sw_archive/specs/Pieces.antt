@@ -29,7 +29,9 @@ AreOfPieces archives pieces =
     All (λ archive. ArePieces archive.k archive.segment archive.body_length pieces
     × (archive.payload ≡ joined_fragments archive.k archive.segment archive.body_length pieces archive.index)) archives
 
--- The body that these archives hold. Any k fragments are of some pieces, and of no others, since any k rows of the generator matrix
--- have an inverse.
-abbrev pub IsDecoded : List ArchiveModel → List ℕ → Type 0
-IsDecoded archives body = (pieces : List (List ℕ)) → AreOfPieces archives pieces → All (λ archive. body ≡ joined_segments archive.segment archive.body_length pieces) archives
+-- The body that these archives hold: the segments at the front of the pieces that they are of. Any k archives that stand
+-- beside one another are of some pieces, and of no others.
+pub record IsDecoded (archives : List ArchiveModel) (body : List ℕ) : Type 0 where
+  pub pieces : List (List ℕ)
+  pub of : AreOfPieces archives pieces
+  pub joined : All (λ archive. body ≡ joined_segments archive.segment archive.body_length pieces) archives

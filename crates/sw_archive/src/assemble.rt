@@ -7,6 +7,7 @@ ghost use Rattle.sw_types.specs.Name.{NameModel};
 ghost use Rattle.sw_types.specs.Object.{ObjectModel};
 ghost use Rattle.sw_types.specs.Policy.{PolicyModel};
 ghost use Rattle.sw_archive.specs.Alike.{is_beside, is_next};
+ghost use Rattle.sw_archive.specs.Archive.{IsSound};
 ghost use Rattle.sw_archive.specs.Assemble.{AreEnough, AreTogether, GivesObject, IsFurther, IsNext, k_of};
 ghost use Rattle.sw_archive.specs.Pieces.{IsDecoded};
 ghost use Rattle.sw_archive.specs.Put.{AreOfPut, IsPut, put_archive};
@@ -56,7 +57,7 @@ impl Model for Assemble {
 }
 
 impl Assemble {
-    /// No archive, and room for none.
+    /// No archive.
     pub fn new(alloc: Global) -> Assemble
         ensures { result.archives ≡ [] }
     {
@@ -179,9 +180,10 @@ fn archive_of(alloc: Global, archives: &[Archive], index: u32) -> Result<Bytes, 
 
 // Whether an archive can stand beside these.
 fn is_next(archives: &[Archive], archive: &Archive) -> bool
-    ensures { result ≡ is_next archives.now archive.now }
+    ensures test { result ≡ is_next archives.now archive.now }
+    ensures sound { IsSound archive.now }
 {
-    archives.len() < archive.k() as usize && is_beside(archives, archive)
+    archives.len() < archive.code().k as usize && is_beside(archives, archive)
 }
 
 // Whether an archive is alike to each of these, and its index is not there.

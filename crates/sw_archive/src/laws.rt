@@ -1,11 +1,14 @@
 //! Laws of the definitions, each the contract of a function without arguments.
 
-ghost use Rattle.std.specs.Prelude.{◌≡◌, ◌<◌, ◌+◌, ◌++◌, List, ℕ, []};
+ghost use Rattle.std.specs.Prelude.{◌≡◌, ◌<◌, ◌+◌, ◌++◌, ◌⊎◌, List, ℕ, []};
+ghost use Rattle.sw_words.specs.Bytes.{IsBytes};
 ghost use Rattle.sw_types.specs.Name.{NameModel};
 ghost use Rattle.sw_types.specs.Object.{ObjectModel};
 ghost use Rattle.sw_types.specs.Policy.{PolicyModel};
 ghost use Rattle.sw_archive.specs.Archive.{ArchiveModel, IsArchive};
+ghost use Rattle.sw_archive.specs.Assemble.{AreEnough, AreTogether};
 ghost use Rattle.sw_archive.specs.Fault.{IsFault};
+ghost use Rattle.sw_archive.specs.Pieces.{AreOfPieces, IsDecoded};
 ghost use Rattle.sw_archive.specs.Put.{IsPut, put_archive, put_fields};
 ghost use Rattle.sw_archive.specs.declared.fault.ArchiveFault.{ArchiveFault as Fault};
 
@@ -22,6 +25,14 @@ pub fn archive_law()
 
 /// Bytes are an archive or have a fault, and not both, and they have one fault at most.
 pub fn fault_law()
+    ensures either { (bytes : List ℕ) → IsBytes bytes → ((archive : ArchiveModel) × IsArchive bytes archive) ⊎ ((fault : Fault) × IsFault bytes fault) }
     ensures not_both { (bytes : List ℕ) (archive : ArchiveModel) (fault : Fault) → IsArchive bytes archive → ¬ (IsFault bytes fault) }
     ensures one { (bytes : List ℕ) (first second : Fault) → IsFault bytes first → IsFault bytes second → first ≡ second }
+{}
+
+/// Any k archives that stand beside one another are of some pieces, and of no others, so that they hold one body.
+pub fn pieces_law()
+    ensures some { (archives : List ArchiveModel) → AreEnough archives → AreTogether archives → (pieces : List (List ℕ)) × AreOfPieces archives pieces }
+    ensures one { (archives : List ArchiveModel) (a b : List (List ℕ)) → AreEnough archives → AreTogether archives → AreOfPieces archives a → AreOfPieces archives b → a ≡ b }
+    ensures body { (archives : List ArchiveModel) (a b : List ℕ) → AreEnough archives → AreTogether archives → IsDecoded archives a → IsDecoded archives b → a ≡ b }
 {}

@@ -55,7 +55,7 @@ piece_byte k width matrix indices bytes pieces decodes ps are i position h l =
     (λ j. ps (j * width + position)) i h
 
 -- a position has a piece only where the width is not 0
-positive_width : (k width position : ℕ) → position < k * width → 0 < width
+pub positive_width : (k width position : ℕ) → position < k * width → 0 < width
 positive_width k zero position h = absurd (omega arith)
 positive_width k (suc w) position h = omega arith
 

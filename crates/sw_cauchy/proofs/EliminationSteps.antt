@@ -10,7 +10,7 @@ use Rattle.sw_cauchy.specs.Elimination.{IsMatrixProduct, HasUnitColumns, IsRowAd
 use Rattle.sw_cauchy.specs.Linear.{matrix_entry, AreIndependent, IsInverse}
 use Rattle.sw_cauchy.proofs.FieldAlgebra.{inverse-pos}
 use Rattle.sw_cauchy.proofs.RowOperations.{Operation-none, Operation-after, Operation-added, Operation-scaled}
-use Rattle.sw_cauchy.proofs.UnitMatrix.{unit_product}
+use Rattle.sw_cauchy.proofs.UnitMatrix.{unit_independent, unit_product}
 
 -- ---- entries
 
@@ -103,6 +103,7 @@ pub record IsEliminated (k : ℕ) (matrix current companion : List ℕ) (column 
   pub companion_bytes : IsBytes companion
   pub product : IsMatrixProduct k companion matrix current
   pub independent : AreIndependent k current
+  pub companion_independent : AreIndependent k companion
   pub unit_columns : HasUnitColumns k current column
 
 -- none yet, with the unit matrix as the companion
@@ -112,6 +113,7 @@ Eliminated-none k matrix unit square unit_bytes is_unit bytes independent = reco
   companion_bytes = unit_bytes;
   product = unit_product k unit matrix is_unit bytes;
   independent = independent;
+  companion_independent = unit_independent k unit is_unit;
   unit_columns = λ i j hi hj. absurd (omega arith);
 }
 
@@ -124,6 +126,7 @@ Eliminated-more k matrix before before_companion new new_companion column bytes 
   companion_bytes = companion_bytes;
   product = operation.product_kept matrix bytes so_far.product;
   independent = operation.independence_kept so_far.independent;
+  companion_independent = operation.companion_independence_kept so_far.companion_independent;
   unit_columns = after;
 }
 

@@ -1,9 +1,10 @@
 -- The fragments of a segment: how wide each is, its bytes, how many there are, and the one at an index; the segment with
 -- zeros behind it; and what is decoded from its fragments.
-use Rattle.std.proofs.Common.{◌≡◌, ℕ, zero, suc, ◌+◌, ◌-◌, ◌*◌, ◌/◌, ◌<◌, ◌≤◌, List, [], ◌∷◌, ◌++◌, Result, IfOk, length, take, replicate, get_or, refl, sym, ap, ◌∙◌, arith, length-append}
+use Rattle.std.proofs.Common.{◌≡◌, ℕ, zero, suc, ◌+◌, ◌-◌, ◌*◌, ◌/◌, ◌<◌, ◌≤◌, List, [], ◌∷◌, ◌++◌, Result, IfOk, length, take, replicate, get_or, refl, sym, ap, subst, ◌∙◌, inl, inr, arith, length-append}
 use Rattle.std.specs.List.{All}
 use Rattle.std.proofs.Math.Nat.{lt-div-mul-add, mul_comm}
-use Rattle.std.proofs.lemmas.List.{length-replicate, take_at}
+use Rattle.std.proofs.lemmas.Bool.{cases_lt}
+use Rattle.std.proofs.lemmas.List.{get_or_past, length-replicate, take_at}
 use Rattle.std.proofs.lemmas.List.FromFn.{length-map-range_with_len, get_or-map-range_with_len}
 use Rattle.std.proofs.lemmas.Result.{IfOk-weaker}
 use Rattle.sw_words.specs.Bytes.{IsBytes}
@@ -11,7 +12,8 @@ use Rattle.sw_words.proofs.ByteLists.{IsBytes-append, IsBytes-zeros}
 use Rattle.sw_cauchy.specs.Matrix.{entry, row_sum}
 use Rattle.sw_cauchy.specs.Share.{AreFragments, GatherModel}
 use Rattle.sw_cauchy.specs.Stripe.{fragment, fragment_byte, fragment_width, padded, segment_fragment, segment_fragments}
-use Rattle.sw_cauchy.proofs.RowSums.{row_sum-same}
+use Rattle.sw_cauchy.proofs.GeneratorRows.{entry-lt}
+use Rattle.sw_cauchy.proofs.RowSums.{row_sum-lt, row_sum-same}
 
 -- ---- the segment with zeros behind it
 
@@ -60,6 +62,16 @@ pub get_or-fragment : (k width : ℕ) (pieces : List ℕ) (i position : ℕ) →
     → get_or (fragment k width pieces i) position 0 ≡ row_sum k (entry k i) (λ j. get_or pieces (j * width + position) 0)
 unfolding fragment
 get_or-fragment k width pieces i position h = get_or-map-range_with_len (fragment_byte k width pieces i) 0 width position position 0 h (omega arith)
+
+-- they are bytes
+pub IsBytes-fragment : (k width : ℕ) (pieces : List ℕ) (i : ℕ) → IsBytes pieces → IsBytes (fragment k width pieces i)
+IsBytes-fragment k width pieces i bytes position =
+    elim (cases_lt position width) [
+      | inl low ↦
+          subst (λ n. n < 256) (sym (get_or-fragment k width pieces i position low))
+          (row_sum-lt k (entry k i) _ (λ j h. entry-lt k i j) (λ j h. bytes (j * width + position)))
+      | inr high ↦ subst (λ n. n < 256) (sym (get_or_past (fragment k width pieces i) position 0 (omega (arith, high, length-fragment k width pieces i)))) (omega arith)
+    ]
 
 -- the width of a segment's
 pub length-segment_fragment : (k : ℕ) (segment : List ℕ) (i : ℕ) → length (segment_fragment k segment i) ≡ fragment_width k (length segment)

@@ -59,3 +59,15 @@ undone_in_row k row inverse matrix x undoes rs xs =
     row_sum-assoc k k row inverse (λ t. row_sum k (matrix t) x) rs undoes.inverse_bytes
     (λ t. row_sum-lt k (matrix t) x (λ j l. undoes.matrix_bytes t j) (λ j l. xs j))
     ∙ row_sum-same k row row _ x (λ j l. refl) (undone k inverse matrix x undoes xs)
+
+-- a matrix whose inverse has an inverse, too, is that one's inverse
+pub undoes_both : (k : ℕ) (second inverse matrix : ℕ → ℕ → ℕ) → Undoes k second inverse → Undoes k inverse matrix
+    → (i j : ℕ) → i < k → j < k → row_sum k (matrix i) (λ t. inverse t j) ≡ (if i == j then 1 else 0)
+undoes_both k second inverse matrix first undoes i j h l =
+    let column : ℕ → ℕ = λ t. inverse t j in
+    let small : (t : ℕ) → column t < 256 = λ t. first.matrix_bytes t j in
+    let made : ℕ → ℕ = λ t. row_sum k (matrix t) column in
+    let made_small : (t : ℕ) → made t < 256 = λ t. row_sum-lt k (matrix t) column (λ s m. undoes.matrix_bytes t s) (λ s m. small s) in
+    sym (undone k second inverse made first made_small i h)
+    ∙ row_sum-same k (second i) (second i) _ column (λ t m. refl) (undone k inverse matrix column undoes small)
+    ∙ first.units i j h l

@@ -12,6 +12,7 @@ use Rattle.sw_cauchy.specs.Elimination.{HasUnitColumns, IsRowAdded, IsRowScaled,
 use Rattle.sw_cauchy.specs.Linear.{matrix_entry, AreIndependent, IsInverse}
 use Rattle.sw_cauchy.proofs.EliminationSteps.{Operation-filled, entry_filled, Operation-made_one, entry_made_one, Operation-cleared, entry_cleared, IsCleared, Cleared-none, Cleared-past, Cleared-more, IsEliminated, Eliminated-none, Eliminated-more, Eliminated-all}
 use Rattle.sw_cauchy.proofs.FieldAlgebra.{xor_byte}
+use Rattle.sw_cauchy.proofs.Inverses.{Undoes, undoes_both}
 use Rattle.sw_cauchy.proofs.Pivot.{pivot_exists}
 use Rattle.sw_cauchy.proofs.RowOperations.{Operation-none, Operation-after, unit_columns_more}
 
@@ -217,9 +218,27 @@ columns_eliminated k matrix bytes independent (suc column) within =
     subst (Eliminated k matrix) (add-one column)
     (after, Eliminated-more k matrix before.current before.companion after.current after.companion column bytes so_far.1 step.1 step.2 after.companion_square after.companion_bytes)
 
--- so independent rows have an inverse
-pub independent_invertible : (k : ℕ) (matrix : List ℕ) → IsBytes matrix → AreIndependent k matrix → (inverse : List ℕ) × IsBytes inverse × (length inverse ≡ k * k) × IsInverse k inverse matrix
-independent_invertible k matrix bytes independent =
+-- so a matrix undoes independent rows, and has independent rows itself
+undone_by : (k : ℕ) (matrix : List ℕ) → IsBytes matrix → AreIndependent k matrix
+    → (inverse : List ℕ) × (length inverse ≡ k * k) × IsBytes inverse × AreIndependent k inverse × Undoes k (matrix_entry k inverse) (matrix_entry k matrix)
+undone_by k matrix bytes independent =
     let all = columns_eliminated k matrix bytes independent k (omega arith) in
-    let pair = all.0 in
-    (pair.companion, pair.companion_bytes, pair.companion_square, Eliminated-all k matrix pair.current pair.companion all.1)
+    let inverse = all.0.companion in (
+      inverse,
+      all.1.companion_square,
+      all.1.companion_bytes,
+      all.1.companion_independent,
+      record {
+        units = Eliminated-all k matrix all.0.current inverse all.1;
+        inverse_bytes = λ i t. all.1.companion_bytes (i * k + t);
+        matrix_bytes = λ t j. bytes (t * k + j);
+      },
+    )
+
+-- and independent rows have an inverse, on both sides
+pub independent_invertible : (k : ℕ) (matrix : List ℕ) → IsBytes matrix → AreIndependent k matrix
+    → (inverse : List ℕ) × IsBytes inverse × (length inverse ≡ k * k) × IsInverse k inverse matrix × IsInverse k matrix inverse
+independent_invertible k matrix bytes independent =
+    let first = undone_by k matrix bytes independent in
+    let second = undone_by k first.0 first.2 first.3 in
+    (first.0, first.2, first.1, first.4.units, undoes_both k (matrix_entry k second.0) (matrix_entry k first.0) (matrix_entry k matrix) second.4 first.4)

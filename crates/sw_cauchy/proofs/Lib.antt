@@ -1,3 +1,4 @@
+pub mod AnyFragments
 mod CauchyElimination
 mod ColumnSums
 mod Decoding

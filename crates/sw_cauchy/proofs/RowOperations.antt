@@ -19,6 +19,7 @@ pub Operation-none : (k column : ℕ) (matrix companion : List ℕ) → IsRowOpe
 Operation-none k column matrix companion = record {
   product_kept = λ origin bytes h. h;
   independence_kept = λ h. h;
+  companion_independence_kept = λ h. h;
   unit_columns_kept = λ h. h;
 }
 
@@ -27,6 +28,7 @@ pub Operation-after : (k column : ℕ) (a b c d e f : List ℕ) → IsRowOperati
 Operation-after k column a b c d e f first next = record {
   product_kept = λ origin bytes h. next.product_kept origin bytes (first.product_kept origin bytes h);
   independence_kept = λ h. next.independence_kept (first.independence_kept h);
+  companion_independence_kept = λ h. next.companion_independence_kept (first.companion_independence_kept h);
   unit_columns_kept = λ h. next.unit_columns_kept (first.unit_columns_kept h);
 }
 
@@ -90,6 +92,7 @@ module _ (k : ℕ) (old new old_companion new_companion : List ℕ) (target sour
   Operation-added column bytes apart behind = record {
     product_kept = product_added;
     independence_kept = independent_added k old new target source factor target_in source_in low bytes h apart;
+    companion_independence_kept = independent_added k old_companion new_companion target source factor target_in source_in low companion_bytes in_companion apart;
     unit_columns_kept = unit_columns_added k old new target source factor target_in source_in low bytes h column behind;
   }
 
@@ -122,6 +125,7 @@ pub Operation-scaled : (k column : ℕ) (old new old_companion new_companion : L
 Operation-scaled k column old new old_companion new_companion row factor row_in behind pos low bytes companion_bytes h in_companion = record {
   product_kept = product_added k old new old_companion new_companion row row (bit_xor factor 1) row_in row_in less companion_bytes added (Added-from_scaled k old_companion new_companion row factor companion_bytes in_companion);
   independence_kept = independent_scaled k old new row factor row_in pos low bytes h;
+  companion_independence_kept = independent_scaled k old_companion new_companion row factor row_in pos low companion_bytes in_companion;
   unit_columns_kept = unit_columns_added k old new row row (bit_xor factor 1) row_in row_in less bytes added column behind;
 }
   where

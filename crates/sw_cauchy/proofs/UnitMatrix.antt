@@ -4,7 +4,7 @@ use Rattle.std.proofs.lemmas.Bool.{cases_lt, cases_eq, eq-eqb, ne_eqb}
 use Rattle.std.proofs.lemmas.Nat.{mul-add-lt, same_from_place}
 use Rattle.std.proofs.lemmas.List.{length-replicate, get_or_past, get_or-replicate, get_or-set_same, get_or-set_other}
 use Rattle.sw_words.specs.Bytes.{IsBytes}
-use Rattle.sw_cauchy.specs.Linear.{matrix_entry}
+use Rattle.sw_cauchy.specs.Linear.{matrix_entry, AreIndependent}
 use Rattle.sw_cauchy.specs.Elimination.{IsMatrixProduct, HasUnitColumns}
 use Rattle.sw_cauchy.proofs.RowSums.{row_sum-unit}
 
@@ -61,3 +61,11 @@ UnitRows-all k matrix h i j hi hj =
 pub unit_product : (k : ℕ) (unit matrix : List ℕ) → HasUnitColumns k unit k → IsBytes matrix → IsMatrixProduct k unit matrix matrix
 unit_product k unit matrix h bytes i j hi hj =
     row_sum-unit k i (matrix_entry k unit i) (λ t. matrix_entry k matrix t j) hi (λ t ht. h i t hi ht) (bytes _)
+
+-- its rows are independent
+pub unit_independent : (k : ℕ) (unit : List ℕ) → HasUnitColumns k unit k → AreIndependent k unit
+unit_independent k unit h column column_bytes long none j =
+    elim (cases_lt j k) [
+      | inl low ↦ sym (row_sum-unit k j (matrix_entry k unit j) (λ t. get_or column t 0) low (λ t ht. h j t low ht) (column_bytes j)) ∙ none j low
+      | inr high ↦ get_or_past column j 0 (omega arith)
+    ]

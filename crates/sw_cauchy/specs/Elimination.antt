@@ -29,4 +29,5 @@ pub record IsRowScaled (k : ℕ) (old new : List ℕ) (row factor : ℕ) : Type 
 pub record IsRowOperation (k column : ℕ) (old old_companion new new_companion : List ℕ) : Type 0 where
   pub product_kept : (matrix : List ℕ) → IsBytes matrix → IsMatrixProduct k old_companion matrix old → IsMatrixProduct k new_companion matrix new
   pub independence_kept : AreIndependent k old → AreIndependent k new
+  pub companion_independence_kept : AreIndependent k old_companion → AreIndependent k new_companion
   pub unit_columns_kept : HasUnitColumns k old column → HasUnitColumns k new column

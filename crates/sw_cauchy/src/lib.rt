@@ -11,7 +11,7 @@ mod rows;
 
 pub use crate::code::Code;
 pub use crate::gather::Gather;
-pub use crate::laws::any_rows_law;
+pub use crate::laws::{any_rows_law, any_shares_law};
 
 #[cfg(test)]
 mod tests;

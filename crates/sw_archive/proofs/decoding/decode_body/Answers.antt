@@ -3,6 +3,7 @@ use Rattle.sw_cauchy.specs.Stripe.{fragment_width}
 use Rattle.sw_archive.specs.Decoding.{AreLeft, AreReached, laid_length}
 use Rattle.sw_archive.specs.Pieces.{IsDecoded, joined_segments}
 use Rattle.sw_archive.proofs.Decodings.{all_left, body_decoded, laid_length-le, next_left, next_reached, next_stop, none_reached}
+use Rattle.sw_archive.proofs.Objects.{some_together}
 use Rattle.sw_archive.proofs.decoding.decode_body.Goals as goal
 use Rattle.sw_archive.proofs.decoding.decode_body.Goals.{After-min-count}
 
@@ -61,5 +62,6 @@ segments-preserved c =
 pub returns-clause-decoded : goal.returns-clause-decoded
 returns-clause-decoded c =
     let over : c.layout_of-layout.result.total ≤ length c.segments.body.items = omega (arith, c.segments-test.false, c.len.ensures, c.segments.body.ok.0) in
+    let found = some_together c.args.archives.now c.requires.enough c.requires.together in
     subst (IsDecoded c.args.archives.now) (sym c.from.ensures)
-    (body_decoded c.layout_of-layout.result c.args.archives.now _ c.segments.offset _ c.layout_of-layout.ensures over c.segments.invariant.left)
+    (body_decoded c.layout_of-layout.result c.args.archives.now _ c.segments.offset _ c.layout_of-layout.ensures over c.segments.invariant.left found.0 found.1)

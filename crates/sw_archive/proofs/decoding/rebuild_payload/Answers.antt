@@ -2,6 +2,7 @@ use Rattle.std.proofs.Common.{◌++◌, ◌∙◌, List, ℕ, [], refl, sym, ap,
 use Rattle.std.proofs.lemmas.List.{append-nil}
 use Rattle.sw_cauchy.specs.Stripe.{fragment, fragment_width}
 use Rattle.sw_archive.proofs.Decodings.{all_left, fragments_at, index_below, next_left, next_reached, next_stop, none_reached, rebuilt}
+use Rattle.sw_archive.proofs.Objects.{some_together}
 use Rattle.sw_archive.proofs.decoding.rebuild_payload.Goals as goal
 
 pub segments-init : goal.segments-init
@@ -39,4 +40,6 @@ segments-preserved c =
     }
 
 pub returns : goal.returns
-returns c = rebuilt c.layout_of-layout.result c.args.archives.now c.args.index c.segments.done c.segments.offset _ _ c.layout_of-layout.ensures c.segments.invariant c.segments-test.false
+returns c =
+    let found = some_together c.args.archives.now c.requires.enough c.requires.together in
+    rebuilt c.layout_of-layout.result c.args.archives.now c.args.index c.segments.done c.segments.offset _ _ c.layout_of-layout.ensures c.segments.invariant c.segments-test.false found.0 found.1

@@ -1,10 +1,16 @@
-use Rattle.std.proofs.Common.{sym}
+use Rattle.std.proofs.Common.{rules, sym}
+use Rattle.sw_words.specs.Bytes.{IsBytes}
 use Rattle.sw_archive.proofs.Faults.{read_behind}
-use Rattle.sw_archive.proofs.Readings.{faultless}
+use Rattle.sw_archive.proofs.Readings.{bytes_behind, faultless}
 use Rattle.sw_archive.proofs.reading.read_fields.Goals as goal
 
 pub read_behind-requires-clause-numbers : goal.read_behind-requires-clause-numbers
 read_behind-requires-clause-numbers c = (faultless c.args.bytes.now c.read-header.result.0 (sym c.in_default.ensures)).numbers
 
 pub returns : goal.returns
-returns c = read_behind c.args.bytes.now c.read-header.result.0 c.read-header.result.1.now c.read_behind.result c.if-bytes-lt68.false c.read-header.ensures.opens (sym c.in_default.ensures) c.read-header.ensures.rest c.read_behind.ensures
+returns c =
+    let bytes : IsBytes c.args.bytes.now = search rules in
+    let header = c.read-header.result.0 in
+    let rest = c.read-header.result.1.now in
+    read_behind c.args.bytes.now header rest c.read_behind.result c.if-bytes-lt68.false c.read-header.ensures.opens (sym c.in_default.ensures) c.read-header.ensures.rest
+    (bytes_behind c.args.bytes.now header rest c.read-header.ensures.opens bytes) c.read_behind.ensures

@@ -8,7 +8,7 @@ use Rattle.sw_archive.proofs.assemble.Assemble.add.Goals.{After-is_next}
 
 -- what is tested is whether the archive can stand beside those that are there
 tested : (c : After-is_next) → c.is_next.result ≡ is_next c.self.inside.archives.items c.args.archive
-tested c = c.is_next.ensures ∙ ap (λ archives. is_next archives c.args.archive) c.deref.ensures.value
+tested c = c.is_next.ensures.test ∙ ap (λ archives. is_next archives c.args.archive) c.deref.ensures.value
 
 next : (c : After-is_next) → c.is_next.result ≡ true → IsNext c.self.inside.archives.items c.args.archive
 next c passes = (Decides-next c.self.inside.archives.items c.args.archive).0 (sym (tested c) ∙ passes)
@@ -33,7 +33,7 @@ push_reserved-requires c =
 pub invariant_of-self : goal.invariant_of-self
 invariant_of-self c =
     let stands = next (goal.at.invariant_of-self c).After-is_next c.if-not-is_next.false in
-    rw c.push_reserved.ensures.items (AreTogether-push c.self.inside.archives.items c.args.archive c.self.invariant stands)
+    rw c.push_reserved.ensures.items (AreTogether-push c.self.inside.archives.items c.args.archive c.self.invariant c.is_next.ensures.sound stands)
 
 pub returns-clause-added : goal.returns-clause-added
 returns-clause-added c =
