@@ -44,7 +44,12 @@ pub fn bury_new(alloc: Global, disk: &mut MemDisk, stamp: Stamp) -> Result<bool,
 }
 
 /// Makes an archive of an index below 32 durable, and says whether it was there and was not.
-pub fn commit_plain(alloc: Global, disk: &mut MemDisk, stamp: Stamp, index: u32) -> Result<bool, DiskRefusal>
+pub fn commit_plain(
+    alloc: Global,
+    disk: &mut MemDisk,
+    stamp: Stamp,
+    index: u32,
+) -> Result<bool, DiskRefusal>
     requires { index < greatest_total }
 {
     let plain = FileName::Data {
@@ -91,7 +96,12 @@ pub fn purge_at_primary(alloc: Global, disk: &mut MemDisk) -> Result<(), DiskRef
 /// Makes an archive of an index below 32 durable at a primary, and removes what that makes obsolete, as a node does it: it
 /// looks at the folder once, and takes all memory before the first change. Says whether the archive was there and was not
 /// durable.
-pub fn commit_and_purge(alloc: Global, disk: &mut MemDisk, stamp: Stamp, index: u32) -> Result<bool, DiskRefusal>
+pub fn commit_and_purge(
+    alloc: Global,
+    disk: &mut MemDisk,
+    stamp: Stamp,
+    index: u32,
+) -> Result<bool, DiskRefusal>
     requires { index < greatest_total }
 {
     let plain = FileName::Data {

@@ -62,7 +62,12 @@ pub fn keep(alloc: Global, disk: &mut MemDisk, name: &str, bytes: &[u8]) -> Resu
 }
 
 /// Whether a file of this name is in a folder.
-pub fn has_file(alloc: Global, disk: &MemDisk, folder: &str, name: &FileName) -> Result<bool, NoMemory>
+pub fn has_file(
+    alloc: Global,
+    disk: &MemDisk,
+    folder: &str,
+    name: &FileName,
+) -> Result<bool, NoMemory>
     requires { IsFileName name.now }
     ensures there { IfOk result (λ there. there ≡ true → HasFile (state_of disk.now) folder.now (file_name_text name.now)) }
     ensures lacks { IfOk result (λ there. there ≡ false → LacksFile (state_of disk.now) folder.now (file_name_text name.now)) }

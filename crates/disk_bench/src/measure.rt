@@ -16,13 +16,15 @@ use sw_memdisk::MemDisk;
 use sw_types::Stamp;
 
 /// What is measured: an archive of so many bytes, in a folder with so many other files, on a disk with so many other folders,
-/// where so many rounds went before.
+/// where so many rounds went before. A disk keeps the bytes of removed files for its record, so each has so many rounds and is
+/// then made anew.
 #[derive(Clone, Copy, Debug)]
 struct Case {
     bytes: usize,
     files: u64,
     folders: u64,
     before: u64,
+    rounds: u64,
 }
 
 /// How long storing and committing took, in all, in so many rounds.
@@ -36,7 +38,7 @@ struct Cost {
 /// Measures each case for about so many seconds, and prints a line for it: what it is, and the nanoseconds that a store and
 /// a commit took.
 pub fn measure(rt: &(impl Print + CpuClock + AllocGlobal), seconds: u64) -> Result<()> {
-    for bytes in [1 << 10, 1 << 20] {
+    for (bytes, rounds) in [(1 << 10, 1_000), (1 << 20, 50)] {
         for files in [1, 100] {
             for folders in [10, 10_000] {
                 let case = Case {
@@ -44,6 +46,7 @@ pub fn measure(rt: &(impl Print + CpuClock + AllocGlobal), seconds: u64) -> Resu
                     files,
                     folders,
                     before: 0,
+                    rounds,
                 };
                 print_case(rt, case, seconds)?;
             }
@@ -55,6 +58,7 @@ pub fn measure(rt: &(impl Print + CpuClock + AllocGlobal), seconds: u64) -> Resu
             files: 1,
             folders: 10,
             before,
+            rounds: 1_000,
         };
         print_case(rt, case, seconds)?;
     }
@@ -81,8 +85,7 @@ fn mean(time: Duration, rounds: u32) -> u128 {
     time.as_nanos() / u128::from(rounds.max(1))
 }
 
-// The cost of a case on disks that are made anew until the rounds took so many seconds. A disk keeps the bytes of removed
-// files for its record, so no disk has many rounds.
+// The cost of a case, on disks that are made anew until the rounds took so many seconds.
 fn cost_of(clock: &(impl CpuClock + AllocGlobal), case: Case, seconds: u64) -> Result<Cost> {
     let mut cost = Cost {
         store: Duration::ZERO,
@@ -93,7 +96,7 @@ fn cost_of(clock: &(impl CpuClock + AllocGlobal), case: Case, seconds: u64) -> R
     let limit = Duration::from_secs(seconds);
     for _ in 0..10_000u32 {
         let mut disk = prepared(clock.alloc(), case)?;
-        for round in 0..50u64 {
+        for round in 0..case.rounds {
             let stamp = stamp(1_000_000u64.saturating_add(round))?;
             one_round(clock, &mut disk, stamp, &bytes, &mut cost)?;
         }
@@ -129,8 +132,8 @@ fn fill(alloc: Global, disk: &mut MemDisk, folder: &str, files: u64) -> Result<(
             durable: false,
         };
         if has_file(alloc, disk, folder, &name)? {
-        bail!("it is there");
-    }
+            bail!("it is there");
+        }
         store(alloc, disk, folder, stamp, 0, b"")?;
     }
     Ok(())

@@ -104,7 +104,10 @@ fn commits_and_purges_or_leaves_both(rt: HostRuntime) -> Result<(), Fail> {
         assert!(rt; has_names(&disk, names));
         let stamp = stamp(if is_newer { 1 } else { 0 })?;
         let kind = FloorKind::Durable;
-        assert_eq!(rt; look(alloc, &mut disk, FOLDER)?.floor(), Some(Floor { stamp, kind }));
+        assert_eq!(rt;
+            look(alloc, &mut disk, FOLDER)?.floor(),
+            Some(Floor { stamp, kind })
+        );
     }
     Ok(())
 }
@@ -123,7 +126,12 @@ fn fetches_what_is_listed(rt: HostRuntime) -> Result<(), Fail> {
     for (bytes, text) in fetched.iter().zip(texts) {
         assert_eq!(rt; bytes.as_slice(), text);
     }
-    assert!(rt; look(alloc, &mut disk, "other")?.listing(alloc)?.entries().is_empty());
+    assert!(rt;
+        look(alloc, &mut disk, "other")?
+            .listing(alloc)?
+            .entries()
+            .is_empty()
+    );
     Ok(())
 }
 

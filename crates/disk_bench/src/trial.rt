@@ -146,7 +146,13 @@ pub fn after_crash(alloc: Global, change: Change, calls: u64, pick: u64) -> Resu
     disk.fuse(calls);
     let made = change.make(alloc, &mut disk)?;
     let is_whole = calls == change.calls();
-    if made != (if is_whole { Ok(true) } else { Err(DiskRefusal::Failed) }) {
+    if made
+        != (if is_whole {
+            Ok(true)
+        } else {
+            Err(DiskRefusal::Failed)
+        })
+    {
         bail!("{} answers otherwise after {} calls", change, calls);
     }
     disk.crash(pick);

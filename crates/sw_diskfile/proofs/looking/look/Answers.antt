@@ -29,9 +29,11 @@ returns-clause-kept g c =
     (g.met.D.Disk.now disk) (λ since later name image. g.met.D.Disk.earlier disk since later name image) None c.in_ok-texts.ensures.runs
 
 pub returns-clause-listed : goal.returns-clause-listed
-returns-clause-listed g c =
-    (texts_of c.in_ok-texts.texts.items, c.in_ok-texts.ensures.names,
-    subst (λ (texts : List (String Global)). IsDirectory (texts_of texts) c.in_ok-of.field-0) c.deref.ensures.value c.in_ok-of.ensures)
+returns-clause-listed g c = (
+  texts_of c.in_ok-texts.texts.items,
+  c.in_ok-texts.ensures.names,
+  subst (λ (texts : List (String Global)). IsDirectory (texts_of texts) c.in_ok-of.field-0) c.deref.ensures.value c.in_ok-of.ensures,
+)
 
 pub returns-clause-directory : goal.returns-clause-directory
 returns-clause-directory g c =

@@ -62,6 +62,12 @@ returns-clause-runs g c =
     let are : AreObsolete c.args.is_primary listed.0 texts = record { names = c.in_ok-dir.dir; directory = listed.2; all = c.in_ok-obsolete.ensures.all; ascend = c.in_ok-obsolete.ensures.ascend } in
     let looked = look_done g.D.Disk.seen g.D.Disk.left_since folder c.args.disk.now c.look.new.disk c.in_ok-dir.ensures.runs in
     let purged = subst (λ (l : List (String Global)). Runs g.D.Disk.seen g.D.Disk.left_since (SyncDir folder ∷ purge_calls folder (texts_of l)) (refusal_of c.settle_and_purge.result) c.ready.new.self c.settle_and_purge.new.disk) c.deref.ensures.value c.settle_and_purge.ensures.runs in
-    inr (listed.0, texts, listed.1, are, (λ reason is. only_fails c.settle_and_purge.result reason c.settle_and_purge.ensures.cause is),
-    runs_more g.D.Disk.seen g.D.Disk.left_since (ListNames folder ∷ []) (SyncDir folder ∷ purge_calls folder texts) (refusal_of c.settle_and_purge.result) c.args.disk.now c.look.new.disk c.settle_and_purge.new.disk looked
-    (runs_after g.D.Disk.seen g.D.Disk.left_since (SyncDir folder ∷ purge_calls folder texts) (refusal_of c.settle_and_purge.result) c.look.new.disk c.ready.new.self c.settle_and_purge.new.disk c.in_ok-ready.ensures.untouched purged))
+    inr (
+      listed.0,
+      texts,
+      listed.1,
+      are,
+      (λ reason is. only_fails c.settle_and_purge.result reason c.settle_and_purge.ensures.cause is),
+      runs_more g.D.Disk.seen g.D.Disk.left_since (ListNames folder ∷ []) (SyncDir folder ∷ purge_calls folder texts) (refusal_of c.settle_and_purge.result) c.args.disk.now c.look.new.disk c.settle_and_purge.new.disk looked
+          (runs_after g.D.Disk.seen g.D.Disk.left_since (SyncDir folder ∷ purge_calls folder texts) (refusal_of c.settle_and_purge.result) c.look.new.disk c.ready.new.self c.settle_and_purge.new.disk c.in_ok-ready.ensures.untouched purged),
+    )
