@@ -2,7 +2,6 @@
 use Rattle.std.specs.Prelude.{◌≡◌, ◌⊎◌, ℕ, ◌≤◌, true, List, [], take, Option, Some, None, ⊤, IsSome, ◌∷◌}
 use Rattle.sw_disk.specs.Folder.{Change, Publish, File, Folder, IsImage, Survive, all_changed, files_of}
 use Rattle.sw_disk.specs.Runs.{IfTold, LeavesOnly, Past, Seen}
-use Rattle.sw_disk.specs.State.{State}
 use Rattle.sw_disk.specs.declared.refusal.DiskRefusal.{DiskRefusal}
 use Rattle.sw_disk.specs.declared.refusal.DiskRefusal.TheVariants.{Failed, Full, NoMemory}
 

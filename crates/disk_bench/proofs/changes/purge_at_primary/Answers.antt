@@ -1,4 +1,4 @@
-use Rattle.std.proofs.Common.{List, ℕ, Global, String, codes, true, sym, subst}
+use Rattle.std.proofs.Common.{List, Global, String, codes, true, sym, subst}
 use Rattle.sw_disk.specs.Answers.{names_of, texts_of}
 use Rattle.sw_disk.specs.Folder.{File, files_of}
 use Rattle.sw_hashdir.specs.Directory.{IsDirectory}

@@ -1,4 +1,4 @@
-use Rattle.std.proofs.Common.{List, [], ◌∷◌, inl, inr, Some, Option, Global, String, refl, sym, subst}
+use Rattle.std.proofs.Common.{List, [], ◌∷◌, inl, inr, Some, Global, String, refl, sym, subst}
 use Rattle.std.proofs.lemmas.Result.{err_from_is_err_and}
 use Rattle.sw_disk.specs.Answers.{names_of, texts_of}
 use Rattle.sw_disk.specs.Calls.{ListNames, SyncDir}
