@@ -1,12 +1,12 @@
 -- Normal forms of folders while the files whose names are obsolete are removed one by one.
-use Rattle.std.proofs.Common.{◌≡◌, ⊎_elim, ℕ, zero, suc, Bool, Contains, List, [], ◌∷◌, map, take, Option, IsSome, refl, sym, ap, subst, ◌∙◌}
+use Rattle.std.proofs.Common.{◌≡◌, ◌↔◌, inl, inr, ⊎_elim, ℕ, zero, suc, Bool, Contains, List, [], ◌∷◌, map, take, Option, IsSome, refl, sym, ap, subst, ◌∙◌}
 use Rattle.sw_disk.specs.Answers.{names_of}
 use Rattle.sw_disk.specs.Folder.{File, Remove, Survive, all_changed, changed, content_at}
 use Rattle.sw_disk.proofs.Images.{survive-removed}
 use Rattle.sw_hashpath.specs.declared.file_name.FileName.{FileName}
 use Rattle.sw_hashdir.specs.Directory.{IsDirectory, IsFloor}
 use Rattle.sw_hashdir.specs.declared.floor.Floor.{Floor}
-use Rattle.sw_diskfile.specs.Normal.{AreObsolete, HaveOneNormalForm, IsNormalForm, IsObsoleteText}
+use Rattle.sw_diskfile.specs.Normal.{AreObsolete, AreThoseLeft, HaveOneNormalForm, IsNormalForm, IsObsoleteText}
 use Rattle.sw_diskfile.proofs.Directories.{has_content}
 use Rattle.sw_diskfile.proofs.Lists.{Contains-cases, Contains-first, Contains-later, Contains-none, IsBefore, first_once, one_ascending, rest_ascend}
 use Rattle.sw_diskfile.proofs.Obsoletes.{floor_same, obsolete_same, one_directory}
@@ -22,6 +22,20 @@ survive_names (f ∷ files) (i ∷ image) s = ap (λ n. n ∷ names_of image) s.
 module _ (is_primary : Bool) where
   text_same : (texts : List (List ℕ)) (names others : List FileName) → IsDirectory texts names → IsDirectory texts others → (text : List ℕ) → IsObsoleteText is_primary names text → IsObsoleteText is_primary others text
   text_same texts names others first second text is = (is.0, obsolete_same names others (one_directory texts names others first second) is_primary is.0 is.1, is.2)
+
+  -- of those that go in the same way the same are left
+  one_left : (Goes Still : List ℕ → Type 0) → ((text : List ℕ) → Goes text ↔ Still text) → (files a b : List File) → AreThoseLeft Goes files a → AreThoseLeft Still files b → a ≡ b
+  one_left Goes Still same [] a b first second = first ∙ sym second
+  one_left Goes Still same (file ∷ files) a b (inl x) (inl y) = one_left Goes Still same files a b x.1 y.1
+  one_left Goes Still same (file ∷ files) a b (inl x) (inr y) = absurd (y.0 ((same file.name).0 x.0))
+  one_left Goes Still same (file ∷ files) a b (inr x) (inl y) = absurd (x.0 ((same file.name).1 y.0))
+  one_left Goes Still same (file ∷ files) a b (inr x) (inr y) = x.2 ∙ ap (λ left. file ∷ left) (one_left Goes Still same files x.1 y.1 x.3 y.3) ∙ sym y.2
+
+  pub one_normal : (files a b : List File) → IsNormalForm is_primary files a → IsNormalForm is_primary files b → a ≡ b
+  one_normal files a b first second =
+      one_left (IsObsoleteText is_primary first.names) (IsObsoleteText is_primary second.names)
+      (λ text. (text_same (names_of files) first.names second.names first.directory second.directory text, text_same (names_of files) second.names first.names second.directory first.directory text))
+      files a b first.left second.left
 
   pub one_list : (texts : List (List ℕ)) (a b : List (List ℕ)) → AreObsolete is_primary texts a → AreObsolete is_primary texts b → a ≡ b
   one_list texts a b first second = one_ascending a b first.ascend second.ascend (λ text. (

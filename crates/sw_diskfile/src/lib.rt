@@ -3,6 +3,7 @@
 
 mod committing;
 mod dropping;
+mod laws;
 mod looking;
 mod purging;
 mod storing;
@@ -10,6 +11,7 @@ mod tidying;
 
 pub use crate::committing::commit;
 pub use crate::dropping::drop_entry;
+pub use crate::laws::folder_law;
 pub use crate::looking::{fetch, look};
 pub use crate::purging::{obsolete_texts, purge};
 pub use crate::storing::{bury, store};
