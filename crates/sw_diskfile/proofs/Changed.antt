@@ -6,7 +6,7 @@ use Rattle.sw_disk.specs.Folder.{Change, Content, File, Folder, IsImage, Survive
 use Rattle.sw_disk.specs.State.{State, after, run, settled}
 use Rattle.sw_disk.proofs.Images.{image_of_all, with_folder-same}
 use Rattle.sw_diskfile.specs.Changes.{IsAsBefore, IsFirstPart, SurvivesPart}
-use Rattle.sw_diskfile.proofs.Steps.{changes_by, changes_of, run_files, run_images, temporary_by}
+use Rattle.sw_diskfile.proofs.Steps.{changes_by, changes_of, run_files, run_images, run_none_pending, temporary_by}
 use Rattle.sw_diskfile.proofs.Synced.{AreSyncedChanges}
 
 -- ---- first parts
@@ -84,6 +84,7 @@ module _ (folder : List ℕ) where
       let files = files_of (state.folder folder) in
       record {
         files = run_files folder steps state ∙ ap (λ (cs : List Change). all_changed cs files) none;
+        pending = run_none_pending folder steps state none;
         images = λ image w. ⊎_elim
             (λ before. before)
             (λ part. image_of_all (state.folder folder) image (nothing part.0 image files (subst (λ (cs : List Change). Survive (all_changed (take part.0 cs) files) image) none part.1)))

@@ -185,8 +185,8 @@ module _ {D : Type 0} (seen : D → Seen) (left_since : D → Past) (folder : Li
 
 -- ---- where all was done
 
-pub on_ok : (result : Result (Unit {0}) DiskRefusal) (P : Type 0) → (refusal_of result ≡ None → P) → OnOk result P
-on_ok (Ok unit) P holds = holds refl
+pub on_ok : {T : Type 0} (result : Result T DiskRefusal) (P : Type 0) → (refusal_of result ≡ None → P) → OnOk result P
+on_ok (Ok value) P holds = holds refl
 on_ok (Err reason) P holds = tt
 
 -- it is not full where no numbers of a full disk can be told
@@ -196,7 +196,7 @@ not_full (Err Failed) none = tt
 not_full (Err NoMemory) none = tt
 not_full (Err (Full need free)) none = none need free refl
 
-pub err_refusal : (result : Result (Unit {0}) DiskRefusal) (reason : DiskRefusal) → IsErrOf result reason → refusal_of result ≡ Some reason
+pub err_refusal : {T : Type 0} (result : Result T DiskRefusal) (reason : DiskRefusal) → IsErrOf result reason → refusal_of result ≡ Some reason
 err_refusal result reason is = ap refusal_of is
 
 -- where it only fails
@@ -277,3 +277,21 @@ module _ {D : Type 0} (seen : D → Seen) (left_since : D → Past) (These : Lis
   pub keeps_unless_memory : (refusal : Option DiskRefusal) → RunsUnlessMemory seen left_since calls refusal a b → Keeps seen left_since These a b
   keeps_unless_memory refusal (inl run) = keeps_run refusal run
   keeps_unless_memory refusal (inr want) = keeps_run None want.1
+
+-- ---- where it was refused before any change
+
+module _ {D : Type 0} (seen : D → Seen) (left_since : D → Past) (a b : D)
+    (now : (name : List ℕ) (image : List File) → IfTold (seen a).told (λ s. IsImage (s.folder name) image → left_since a (seen a).moment name image))
+    (earlier : (since later : ℕ) (name : List ℕ) (image : List File) → since ≤ later → left_since a later name image → left_since a since name image) where
+  pub keeps_refused : (call : Call) (reason : DiskRefusal) → Runs seen left_since (call ∷ []) (Some reason) a b → Keeps seen left_since (λ _. ⊤) a b
+  keeps_refused call reason run =
+      let none = none_done call (calls_in run.steps) run.rest run.split (run.some reason refl) in
+      let quiet = λ (name : List ℕ) (temporary : Option Content). ap (λ (cs : List Call). changes_by name cs temporary) none in
+      record {
+        stands = λ name _. refused_before name seen left_since call reason a b run;
+        leaves = λ some name _.
+            left_alone seen left_since (λ _. ⊤) (calls_in run.steps) (λ name _. quiet name) a b now earlier name (seen a).told (now name)
+            (left_told name (calls_in run.steps) [] (record { made = quiet name; synced = tt; ends = inl refl }) (λ (t : ℕ) (image : List File). left_since b t name image) (λ (t : ℕ) (image : List File). left_since a t name image) (seen a).moment
+            run.steps [] (seen a).told (sym (append-nil (calls_in run.steps))) (now name) (λ since later image. earlier since later name image) (λ t image. run.nothing_else t name image))
+            some;
+      }

@@ -13,16 +13,17 @@ use Rattle.sw_disk.proofs.Images.{all_changed-append, image-pended, image-settle
 -- it became another by these changes, and a crash leaves what it left before, or all of them
 record Moves (before : Folder) (changes : List Change) (now : Folder) : Type 0 where
   files : files_of now ≡ all_changed changes (files_of before)
+  pending : changes ≡ [] → before.pending ≡ [] → now.pending ≡ []
   images : (image : List File) → IsImage now image → IsImage before image ⊎ Survive (all_changed changes (files_of before)) image
 
 stays : (folder : Folder) → Moves folder [] folder
-stays folder = record { files = refl; images = λ image w. inl w }
+stays folder = record { files = refl; pending = λ _ none. none; images = λ image w. inl w }
 
 settles : (folder : Folder) → Moves folder [] (settled folder)
-settles folder = record { files = refl; images = λ image w. inl (image_of_all folder image (image-settled folder image w)) }
+settles folder = record { files = refl; pending = λ _ _. refl; images = λ image w. inl (image_of_all folder image (image-settled folder image w)) }
 
 pends : (folder : Folder) (change : Change) → Moves folder (change ∷ []) (pended folder change)
-pends folder change = record { files = all_changed-append folder.pending (change ∷ []) folder.stable; images = image-pended folder change }
+pends folder change = record { files = all_changed-append folder.pending (change ∷ []) folder.stable; pending = λ nothing. absurd (cc); images = image-pended folder change }
 
 -- the change that moves the temporary file to a name
 abbrev publishing : Option Content → List ℕ → List Change
@@ -116,6 +117,18 @@ module _ (folder : List ℕ) where
       run_files steps (after (Do call) state) ∙ ap (all_changed next) (called call state).files
       ∙ sym (all_changed-append first next (files_of (state.folder folder)))
       ∙ ap (λ (cs : List Change). all_changed cs (files_of (state.folder folder))) (next_changes call steps state)
+
+  -- nothing comes to be pending where no change is made
+  pub run_none_pending : (steps : List Step) (state : State) → changes_in steps state ≡ [] → (state.folder folder).pending ≡ [] → ((run steps state).folder folder).pending ≡ []
+  run_none_pending [] state nothing none = none
+  run_none_pending (Settle other ∷ steps) state nothing none = run_none_pending steps (after (Settle other) state) nothing ((made_stable state other).pending refl none)
+  run_none_pending (Do call ∷ steps) state nothing none =
+      let both = nothing_in (changes_of call state.temporary) (changes_in steps (after (Do call) state)) (next_changes call steps state ∙ nothing) in
+      run_none_pending steps (after (Do call) state) both.1 ((called call state).pending both.0 none)
+    where
+      nothing_in : (xs ys : List Change) → xs ++ ys ≡ [] → (xs ≡ []) × (ys ≡ [])
+      nothing_in [] ys is = (refl, is)
+      nothing_in (x ∷ xs) ys is = absurd (cc)
 
   -- the first of the changes, and then some first part of the others
   part_more : (first next : List Change) (files image : List File) → SurvivesPart next (all_changed first files) image → SurvivesPart (first ++ next) files image

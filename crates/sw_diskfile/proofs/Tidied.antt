@@ -8,7 +8,7 @@ use Rattle.sw_disk.specs.Runs.{IfTold, IsUntouched, Past, Runs, Seen}
 use Rattle.sw_disk.specs.State.{State}
 use Rattle.sw_disk.specs.declared.refusal.DiskRefusal.{DiskRefusal}
 use Rattle.sw_disk.specs.declared.refusal.DiskRefusal.TheVariants.{Failed}
-use Rattle.sw_disk.proofs.Chains.{runs_more, runs_stop, told_map}
+use Rattle.sw_disk.proofs.Chains.{runs_after, runs_more, runs_stop, told_map}
 use Rattle.sw_diskfile.specs.Calls.{purge_calls, tidy_calls}
 use Rattle.sw_diskfile.specs.Changes.{Changes, IfBothTold, IsAsBefore, IsMadeStable, Keeps}
 use Rattle.sw_diskfile.specs.Names.{IsListed, RunsUnlessMemory}
@@ -40,6 +40,21 @@ pub looked_keeps : {D : Type 0} (seen : D → Seen) (left_since : D → Past) (f
 looked_keeps seen left_since folder a b c P looked same has =
     subst (λ (o : Option State). IfTold o (λ s. P (files_of (s.folder folder)))) (sym same.told)
     (quiet_keeps seen left_since a b (ListNames folder ∷ []) folder P tt (look_done seen left_since folder a b looked) has)
+
+-- what follows it, once there is room for the removals
+pub tidies_all : {D : Type 0} (seen : D → Seen) (left_since : D → Past) (folder : List ℕ) (is_primary : Bool) (a b c d : D) (texts obsolete : List (List ℕ)) → IsListed (seen a).told folder texts → AreObsolete is_primary texts obsolete
+    → RunsUnlessMemory seen left_since (ListNames folder ∷ []) None a b → IsUntouched seen left_since b c → (refusal : Option DiskRefusal) → ((reason : DiskRefusal) → refusal ≡ Some reason → reason ≡ Failed)
+    → Runs seen left_since (SyncDir folder ∷ purge_calls folder obsolete) refusal c d → Tidies seen left_since folder is_primary refusal a d
+tidies_all seen left_since folder is_primary a b c d texts obsolete listed are looked same refusal only purged =
+    inr (
+      texts,
+      obsolete,
+      listed,
+      are,
+      only,
+      runs_more seen left_since (ListNames folder ∷ []) (SyncDir folder ∷ purge_calls folder obsolete) refusal a b d (look_done seen left_since folder a b looked)
+          (runs_after seen left_since (SyncDir folder ∷ purge_calls folder obsolete) refusal b c d same purged),
+    )
 
 -- ---- all of it
 
@@ -127,3 +142,12 @@ tidy_others seen left_since folder is_primary a b now earlier refusal (inl early
     keeps_run seen left_since (λ name. name ≢ folder) (ListNames folder ∷ SyncDir folder ∷ []) (λ name differs temporary. refl) a b now earlier refusal early.2
 tidy_others seen left_since folder is_primary a b now earlier refusal (inr all) =
     keeps_run seen left_since (λ name. name ≢ folder) (tidy_calls folder all.1) (λ name differs. tidy_alone folder name differs all.1) a b now earlier refusal all.5
+
+-- and none at all where it is refused otherwise than by a failure
+pub tidy_unmade : {D : Type 0} (seen : D → Seen) (left_since : D → Past) (folder : List ℕ) (is_primary : Bool) (a b : D)
+    → ((name : List ℕ) (image : List File) → IfTold (seen a).told (λ s. IsImage (s.folder name) image → left_since a (seen a).moment name image))
+    → ((since later : ℕ) (name : List ℕ) (image : List File) → since ≤ later → left_since a later name image → left_since a since name image)
+    → (refusal : Option DiskRefusal) → Tidies seen left_since folder is_primary refusal a b → (reason : DiskRefusal) → refusal ≡ Some reason → reason ≢ Failed → Keeps seen left_since (λ _. ⊤) a b
+tidy_unmade seen left_since folder is_primary a b now earlier refusal (inl early) reason is other =
+    keeps_run seen left_since (λ _. ⊤) (ListNames folder ∷ SyncDir folder ∷ []) (λ name _ temporary. refl) a b now earlier refusal early.2
+tidy_unmade seen left_since folder is_primary a b now earlier refusal (inr all) reason is other = absurd (other (all.4 reason is))

@@ -29,6 +29,7 @@ SurvivesPart changes files image = (count : ℕ) × Survive (all_changed (take c
 -- a folder is as before, and no more of it is pending
 pub record IsAsBefore (before after : Folder) : Type 0 where
   pub files : files_of after ≡ files_of before
+  pub pending : before.pending ≡ [] → after.pending ≡ []
   pub images : (image : List File) → IsImage after image → IsImage before image
 
 -- all the changes were made, or a first part of them where the disk failed; other refusals come before the first

@@ -43,11 +43,11 @@ pub record IsNormalForm (is_primary : Bool) (files normal : List File) : Type 0 
   pub directory : IsDirectory (names_of files) names
   pub left : AreThoseLeft (IsObsoleteText is_primary names) files normal
 
--- two folders have one normal form
+-- what is the normal form of one folder is that of the other
 abbrev pub HaveOneNormalForm : Bool → (files others : List File) → Type 0
 HaveOneNormalForm is_primary files others = (normal : List File) → IsNormalForm is_primary files normal ↔ IsNormalForm is_primary others normal
 
--- a fact of each list of the texts that are obsolete in a folder, where it is told; there is one such list
+-- a fact of each list of the texts that are obsolete in a folder, where it is told; there is no other such list
 abbrev pub WithObsolete : Option State → List ℕ → Bool → (List (List ℕ) → Type 0) → Type 0
 WithObsolete told name is_primary P = IfTold told (λ state. (obsolete : List (List ℕ)) → AreObsolete is_primary (names_of (files_of (state.folder name))) obsolete → P obsolete)
 

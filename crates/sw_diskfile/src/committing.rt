@@ -1,6 +1,6 @@
 //! Making archives durable.
 
-ghost use Rattle.std.specs.Prelude.{◌≡◌, ◌≢◌, ◌<◌, ◌≤◌, true, false, [], ◌∷◌, IfErr, OnOk, Some, length};
+ghost use Rattle.std.specs.Prelude.{◌≡◌, ◌≢◌, ◌<◌, ◌≤◌, true, false, [], ◌∷◌, IfErr, OnOk, Some, length, ⊤};
 ghost use Rattle.sw_types.specs.Policy.{greatest_total};
 ghost use Rattle.sw_disk.specs.Answers.{HasFile, IsNotFull, LacksFile};
 ghost use Rattle.sw_disk.specs.Calls.{RenameFile};
@@ -39,6 +39,7 @@ pub fn commit<D: Disk>(
     ensures directory { OnOk result (IfBothTold (D.seen disk.old) (D.seen disk.new) folder.now (MakesName (Data stamp index true))) }
     ensures stable { OnOk result (IfBothTold (D.seen disk.old) (D.seen disk.new) folder.now IsMadeStable) }
     ensures others { Keeps D.seen D.left_since (λ name. name ≢ folder.now) disk.old disk.new }
+    ensures unmade { (reason : ARefusal) → refusal_of result ≡ Some reason → reason ≢ Failed → Keeps D.seen D.left_since (λ name. ⊤) disk.old disk.new }
     ensures room { TakesRoom folder.now (D.seen disk.old) (D.seen disk.new) }
     ensures never_full { IfErr result IsNotFull }
 {

@@ -1,6 +1,6 @@
 //! Removing archives.
 
-ghost use Rattle.std.specs.Prelude.{◌≡◌, ◌≢◌, ◌<◌, ◌≤◌, [], ◌∷◌, IfErr, OnOk, Some, length};
+ghost use Rattle.std.specs.Prelude.{◌≡◌, ◌≢◌, ◌<◌, ◌≤◌, [], ◌∷◌, IfErr, OnOk, Some, length, ⊤};
 ghost use Rattle.sw_types.specs.Policy.{greatest_total};
 ghost use Rattle.sw_disk.specs.Answers.{HasFile, IsNotFull};
 ghost use Rattle.sw_disk.specs.Calls.{RemoveFile};
@@ -38,6 +38,7 @@ pub fn drop_entry<D: Disk>(
     ensures directory { OnOk result (IfBothTold (D.seen disk.old) (D.seen disk.new) folder.now (DropsName (Data entry.stamp entry.index entry.durable))) }
     ensures stable { OnOk result (IfBothTold (D.seen disk.old) (D.seen disk.new) folder.now IsMadeStable) }
     ensures others { Keeps D.seen D.left_since (λ name. name ≢ folder.now) disk.old disk.new }
+    ensures unmade { (reason : ARefusal) → refusal_of result ≡ Some reason → reason ≢ Failed → Keeps D.seen D.left_since (λ name. ⊤) disk.old disk.new }
     ensures room { TakesRoom folder.now (D.seen disk.old) (D.seen disk.new) }
     ensures never_full { IfErr result IsNotFull }
 {

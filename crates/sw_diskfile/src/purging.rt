@@ -55,6 +55,7 @@ pub fn purge<D: Disk>(
     ensures keeps { KeepsNormal D.seen D.left_since folder.now is_primary disk.old disk.new }
     ensures stable { OnOk result (obsolete.now ≢ [] → IfBothTold (D.seen disk.old) (D.seen disk.new) folder.now IsMadeStable) }
     ensures others { Keeps D.seen D.left_since (λ name. name ≢ folder.now) disk.old disk.new }
+    ensures nothing { obsolete.now ≡ [] → disk.new ≡ disk.old }
     ensures cause { IfErr result (λ refusal. refusal ≡ Failed) }
 {
     purge_by_calls(disk, folder, is_primary, obsolete)
@@ -72,6 +73,7 @@ pub(crate) fn purge_by_calls<D: Disk>(
     requires short { All (λ name. length (string_bytes name) ≤ 96) obsolete.now }
     requires room { length obsolete.now ≤ (D.seen disk.old).room folder.now }
     ensures runs { Runs D.seen D.left_since (purge_calls folder.now (texts_of obsolete.now)) (refusal_of result) disk.old disk.new }
+    ensures nothing { obsolete.now ≡ [] → disk.new ≡ disk.old }
     ensures cause { IfErr result (λ refusal. refusal ≡ Failed) }
 {
     if obsolete.is_empty() {

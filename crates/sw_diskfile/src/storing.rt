@@ -1,6 +1,6 @@
 //! Storing archives and tombstones.
 
-ghost use Rattle.std.specs.Prelude.{◌≡◌, ◌≢◌, ◌<◌, ◌≤◌, ℕ, false, [], ◌∷◌, IfErr, IsErrOf, IsSome, OnOk, Some, length};
+ghost use Rattle.std.specs.Prelude.{◌≡◌, ◌≢◌, ◌<◌, ◌≤◌, ℕ, false, [], ◌∷◌, IfErr, IsErrOf, IsSome, OnOk, Some, length, ⊤};
 ghost use Rattle.sw_types.specs.Policy.{greatest_total};
 ghost use Rattle.sw_disk.specs.Answers.{IsFull, IsNotFull, LacksFile};
 ghost use Rattle.sw_disk.specs.Calls.{PublishTmp, SyncDir, SyncTmp, WriteTmp};
@@ -41,6 +41,7 @@ pub fn store<D: Disk>(
     ensures directory { OnOk result (IfBothTold (D.seen disk.old) (D.seen disk.new) folder.now (MakesName (Data stamp index false))) }
     ensures stable { OnOk result (IfBothTold (D.seen disk.old) (D.seen disk.new) folder.now IsMadeStable) }
     ensures others { Keeps D.seen D.left_since (λ name. name ≢ folder.now) disk.old disk.new }
+    ensures unmade { (reason : ARefusal) → refusal_of result ≡ Some reason → reason ≢ Failed → Keeps D.seen D.left_since (λ name. ⊤) disk.old disk.new }
     ensures room { TakesRoom folder.now (D.seen disk.old) (D.seen disk.new) }
     ensures full { (need free : ℕ) → IsErrOf result (DiskRefusal.Full need free) → IsFull need free (length bytes.now) (D.seen disk.old).told }
     ensures fits { OnOk result (IfTold (D.seen disk.old).told (λ state. length bytes.now ≤ free_of state)) }
@@ -69,6 +70,7 @@ pub fn bury<D: Disk>(
     ensures directory { OnOk result (IfBothTold (D.seen disk.old) (D.seen disk.new) folder.now (MakesName (Tombstone stamp))) }
     ensures stable { OnOk result (IfBothTold (D.seen disk.old) (D.seen disk.new) folder.now IsMadeStable) }
     ensures others { Keeps D.seen D.left_since (λ name. name ≢ folder.now) disk.old disk.new }
+    ensures unmade { (reason : ARefusal) → refusal_of result ≡ Some reason → reason ≢ Failed → Keeps D.seen D.left_since (λ name. ⊤) disk.old disk.new }
     ensures room { TakesRoom folder.now (D.seen disk.old) (D.seen disk.new) }
     ensures never_full { IfErr result IsNotFull }
 {
@@ -93,6 +95,7 @@ fn make_file<D: Disk>(
     ensures directory { OnOk result (IfBothTold (D.seen disk.old) (D.seen disk.new) folder.now (MakesName name.now)) }
     ensures stable { OnOk result (IfBothTold (D.seen disk.old) (D.seen disk.new) folder.now IsMadeStable) }
     ensures others { Keeps D.seen D.left_since (λ name. name ≢ folder.now) disk.old disk.new }
+    ensures unmade { (reason : ARefusal) → refusal_of result ≡ Some reason → reason ≢ Failed → Keeps D.seen D.left_since (λ name. ⊤) disk.old disk.new }
     ensures room { TakesRoom folder.now (D.seen disk.old) (D.seen disk.new) }
     ensures full { (need free : ℕ) → IsErrOf result (DiskRefusal.Full need free) → IsFull need free (length bytes.now) (D.seen disk.old).told }
     ensures fits { OnOk result (IfTold (D.seen disk.old).told (λ state. length bytes.now ≤ free_of state)) }

@@ -12,7 +12,7 @@ use Rattle.sw_diskfile.specs.Changes.{IsMadeStable, IfBothTold}
 use Rattle.sw_diskfile.specs.Names.{MakesName}
 use Rattle.sw_diskfile.proofs.CallLists.{commit_alone, makes_commit}
 use Rattle.sw_diskfile.proofs.Directories.{durable_directory}
-use Rattle.sw_diskfile.proofs.Outcomes.{keeps_run, all_stand, changes_run, on_ok, refused_before, stable_run}
+use Rattle.sw_diskfile.proofs.Outcomes.{keeps_refused, keeps_run, all_stand, changes_run, on_ok, refused_before, stable_run}
 use Rattle.sw_diskfile.proofs.committing.commit.Goals as goal
 
 pub returns-clause-changes : goal.returns-clause-changes
@@ -52,3 +52,11 @@ returns-clause-others g c =
     let text = λ (durable : Bool). file_name_text (Data c.args.stamp c.args.index durable) in
     keeps_run g.D.Disk.seen g.D.Disk.left_since (λ name. name ≢ folder) (commit_calls folder (text false) (text true)) (λ name differs. commit_alone folder name differs (text false) (text true)) disk c.commit_by_calls.new.disk
     (g.met.D.Disk.now disk) (λ since later name image. g.met.D.Disk.earlier disk since later name image) (refusal_of c.commit_by_calls.result) c.commit_by_calls.ensures.runs
+
+pub returns-clause-unmade : goal.returns-clause-unmade
+returns-clause-unmade g c = λ reason is other.
+    let disk = c.args.disk.now in
+    let folder = c.args.folder.now in
+    let text = λ (durable : Bool). file_name_text (Data c.args.stamp c.args.index durable) in
+    keeps_refused g.D.Disk.seen g.D.Disk.left_since disk c.commit_by_calls.new.disk (g.met.D.Disk.now disk) (λ since later name image. g.met.D.Disk.earlier disk since later name image)
+    (RenameFile folder (text false) (text true)) reason (c.commit_by_calls.ensures.early reason is other)

@@ -14,7 +14,7 @@ use Rattle.sw_diskfile.specs.Names.{DropsName}
 use Rattle.sw_diskfile.proofs.CallLists.{drop_alone, makes_drop}
 use Rattle.sw_diskfile.proofs.Directories.{dropped_directory}
 use Rattle.sw_diskfile.proofs.Kept.{always}
-use Rattle.sw_diskfile.proofs.Outcomes.{keeps_run, all_stand, changes_run, on_ok, refused_before, stable_run}
+use Rattle.sw_diskfile.proofs.Outcomes.{keeps_refused, keeps_run, all_stand, changes_run, on_ok, refused_before, stable_run}
 use Rattle.sw_diskfile.proofs.dropping.drop_entry.Goals as goal
 
 pub returns-clause-changes : goal.returns-clause-changes
@@ -53,3 +53,11 @@ returns-clause-others g c =
     let text = file_name_text (Data c.args.entry.stamp c.args.entry.index c.args.entry.durable) in
     keeps_run g.D.Disk.seen g.D.Disk.left_since (λ name. name ≢ folder) (drop_calls folder text) (λ name differs. drop_alone folder name differs text) disk c.drop_by_calls.new.disk
     (g.met.D.Disk.now disk) (λ since later name image. g.met.D.Disk.earlier disk since later name image) (refusal_of c.drop_by_calls.result) c.drop_by_calls.ensures.runs
+
+pub returns-clause-unmade : goal.returns-clause-unmade
+returns-clause-unmade g c = λ reason is other.
+    let disk = c.args.disk.now in
+    let folder = c.args.folder.now in
+    let text = file_name_text (Data c.args.entry.stamp c.args.entry.index c.args.entry.durable) in
+    keeps_refused g.D.Disk.seen g.D.Disk.left_since disk c.drop_by_calls.new.disk (g.met.D.Disk.now disk) (λ since later name image. g.met.D.Disk.earlier disk since later name image)
+    (RemoveFile folder text) reason (c.drop_by_calls.ensures.early reason is other)

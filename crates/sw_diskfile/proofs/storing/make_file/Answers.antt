@@ -12,7 +12,7 @@ use Rattle.sw_diskfile.specs.Names.{MakesName}
 use Rattle.sw_diskfile.proofs.CallLists.{store_alone, makes_store}
 use Rattle.sw_diskfile.proofs.Directories.{made_directory}
 use Rattle.sw_diskfile.proofs.Kept.{always}
-use Rattle.sw_diskfile.proofs.Outcomes.{keeps_run, all_stand, changes_run, on_ok, refused_before, stable_run}
+use Rattle.sw_diskfile.proofs.Outcomes.{keeps_refused, keeps_run, all_stand, changes_run, on_ok, refused_before, stable_run}
 use Rattle.sw_diskfile.proofs.storing.make_file.Goals as goal
 
 pub returns-clause-changes : goal.returns-clause-changes
@@ -49,3 +49,9 @@ returns-clause-others g c =
     let disk = c.args.disk.now in
     keeps_run g.D.Disk.seen g.D.Disk.left_since (λ name. name ≢ folder) (store_calls folder (file_name_text c.args.name.now) c.args.bytes.now) (λ name differs. store_alone folder name differs (file_name_text c.args.name.now) c.args.bytes.now) disk c.file_by_calls.new.disk
     (g.met.D.Disk.now disk) (λ since later name image. g.met.D.Disk.earlier disk since later name image) (refusal_of c.file_by_calls.result) c.file_by_calls.ensures.runs
+
+pub returns-clause-unmade : goal.returns-clause-unmade
+returns-clause-unmade g c = λ reason is other.
+    let disk = c.args.disk.now in
+    keeps_refused g.D.Disk.seen g.D.Disk.left_since disk c.file_by_calls.new.disk (g.met.D.Disk.now disk) (λ since later name image. g.met.D.Disk.earlier disk since later name image)
+    (WriteTmp c.args.bytes.now) reason (c.file_by_calls.ensures.early reason is other)

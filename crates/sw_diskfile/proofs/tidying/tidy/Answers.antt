@@ -1,9 +1,8 @@
 use Rattle.sw_disk.specs.Runs.{refusal_of}
-use Rattle.sw_disk.specs.declared.refusal.DiskRefusal.TheVariants.{NoMemory}
 use Rattle.sw_diskfile.specs.Changes.{IsMadeStable, IfBothTold}
 use Rattle.sw_diskfile.specs.Normal.{IsTidied}
-use Rattle.sw_diskfile.proofs.Outcomes.{err_refusal, on_ok}
-use Rattle.sw_diskfile.proofs.Tidied.{tidy_before, tidy_changes, tidy_done, tidy_exact, tidy_keeps, tidy_others, tidy_stable}
+use Rattle.sw_diskfile.proofs.Outcomes.{on_ok}
+use Rattle.sw_diskfile.proofs.Tidied.{tidy_changes, tidy_done, tidy_exact, tidy_keeps, tidy_others, tidy_stable, tidy_unmade}
 use Rattle.sw_diskfile.proofs.tidying.tidy.Goals as goal
 
 pub returns-clause-exact : goal.returns-clause-exact
@@ -39,13 +38,11 @@ returns-clause-keeps g c =
     (g.met.D.Disk.now disk folder) (g.met.D.Disk.only_now disk folder) (λ since later image. g.met.D.Disk.earlier disk since later folder image)
     (refusal_of c.tidy_by_calls.result) c.tidy_by_calls.ensures.runs
 
-pub returns-clause-kept : goal.returns-clause-kept
-returns-clause-kept g c = λ is.
-    let folder = c.args.folder.now in
+pub returns-clause-unmade : goal.returns-clause-unmade
+returns-clause-unmade g c =
     let disk = c.args.disk.now in
-    tidy_before g.D.Disk.seen g.D.Disk.left_since folder c.args.is_primary disk c.tidy_by_calls.new.disk
-    (g.met.D.Disk.now disk folder) (g.met.D.Disk.only_now disk folder) (λ since later image. g.met.D.Disk.earlier disk since later folder image)
-    (refusal_of c.tidy_by_calls.result) c.tidy_by_calls.ensures.runs NoMemory (err_refusal c.tidy_by_calls.result NoMemory is) (λ other. cc)
+    tidy_unmade g.D.Disk.seen g.D.Disk.left_since c.args.folder.now c.args.is_primary disk c.tidy_by_calls.new.disk
+    (g.met.D.Disk.now disk) (λ since later name image. g.met.D.Disk.earlier disk since later name image) (refusal_of c.tidy_by_calls.result) c.tidy_by_calls.ensures.runs
 
 pub returns-clause-stable : goal.returns-clause-stable
 returns-clause-stable g c =

@@ -1,17 +1,17 @@
-use Rattle.std.proofs.Common.{List, [], ◌∷◌, inl, inr, Some, Global, String, refl, sym, subst}
+use Rattle.std.proofs.Common.{List, [], ◌∷◌, inl, Some, Global, String, refl, sym, subst, ◌∙◌, Option, None, ◌≡◌}
 use Rattle.std.proofs.lemmas.Result.{err_from_is_err_and}
 use Rattle.sw_disk.specs.Answers.{names_of, texts_of}
 use Rattle.sw_disk.specs.Calls.{ListNames, SyncDir}
 use Rattle.sw_disk.specs.Folder.{File, files_of}
-use Rattle.sw_disk.specs.Runs.{IfTold, Runs, refusal_of}
-use Rattle.sw_disk.specs.declared.refusal.DiskRefusal.TheVariants.{NoMemory}
-use Rattle.sw_disk.proofs.Chains.{runs_after, runs_more, told_map}
+use Rattle.sw_disk.specs.Runs.{IfTold, Runs}
+use Rattle.sw_disk.specs.declared.refusal.DiskRefusal.{DiskRefusal}
+use Rattle.sw_disk.specs.declared.refusal.DiskRefusal.TheVariants.{Failed, NoMemory}
+use Rattle.sw_disk.proofs.Chains.{runs_more, told_map}
 use Rattle.sw_diskfile.specs.Calls.{purge_calls}
 use Rattle.sw_diskfile.specs.Names.{IsDirectoryOf}
 use Rattle.sw_diskfile.specs.Normal.{AreObsolete}
 use Rattle.sw_diskfile.proofs.Begun.{refused_early, unbegun}
-use Rattle.sw_diskfile.proofs.Outcomes.{only_fails}
-use Rattle.sw_diskfile.proofs.Tidied.{look_done, look_refused, looked_keeps}
+use Rattle.sw_diskfile.proofs.Tidied.{look_done, look_refused, looked_keeps, tidies_all}
 use Rattle.sw_diskfile.proofs.tidying.tidy_by_calls.Goals as goal
 
 pub returns-in_err-dir-clause-runs : goal.returns-in_err-dir-clause-runs
@@ -54,20 +54,33 @@ settle_and_purge-requires-clause-obsolete g c =
     let ready = looked_keeps g.D.Disk.seen g.D.Disk.left_since folder c.args.disk.now c.look.new.disk c.ready.new.self P c.in_ok-dir.ensures.runs c.in_ok-ready.ensures.untouched first in
     subst (λ (names : List (String Global)). IfTold (g.D.Disk.seen c.ready.new.self).told (λ s. AreObsolete c.args.is_primary (names_of (files_of (s.folder folder))) (texts_of names))) (sym c.deref.ensures.value) ready
 
+abbrev no_refusal : Option DiskRefusal
+no_refusal = None
+
+none_other : (reason : DiskRefusal) → no_refusal ≡ Some reason → ⊥
+none_other reason is = cc
+
+only_reason : (reason other : DiskRefusal) → Some reason ≡ Some other → other ≡ reason
+only_reason reason other is = cc
+
+-- all of it, or all but what a failure stopped
+pub returns-in_err-settle_and_purge-clause-runs : goal.returns-in_err-settle_and_purge-clause-runs
+returns-in_err-settle_and_purge-clause-runs g c =
+    let p = err_from_is_err_and c.from_residual-in_err-settle_and_purge.result c.from_residual-in_err-settle_and_purge.ensures.1 in
+    let folder = c.args.folder.now in
+    let reason = c.in_err-settle_and_purge.field-0.0 in
+    let listed = c.in_ok-dir.ensures.listed in
+    let are : AreObsolete c.args.is_primary listed.0 (texts_of c.in_ok-obsolete.obsolete.items) = record { names = c.in_ok-dir.dir; directory = listed.2; all = c.in_ok-obsolete.ensures.all; ascend = c.in_ok-obsolete.ensures.ascend } in
+    let cause : reason ≡ Failed = c.in_err-settle_and_purge.ensures.cause in
+    rw (p.1, p.2) (tidies_all g.D.Disk.seen g.D.Disk.left_since folder c.args.is_primary c.args.disk.now c.look.new.disk c.ready.new.self c.settle_and_purge.new.disk listed.0 (texts_of c.in_ok-obsolete.obsolete.items) listed.1 are
+    c.in_ok-dir.ensures.runs c.in_ok-ready.ensures.untouched (Some reason) (λ other is. only_reason reason other is ∙ cause)
+    (subst (λ (l : List (String Global)). Runs g.D.Disk.seen g.D.Disk.left_since (SyncDir folder ∷ purge_calls folder (texts_of l)) (Some reason) c.ready.new.self c.settle_and_purge.new.disk) c.deref.ensures.value c.in_err-settle_and_purge.ensures.runs))
+
 pub returns-clause-runs : goal.returns-clause-runs
 returns-clause-runs g c =
     let folder = c.args.folder.now in
-    let texts = texts_of c.in_ok-obsolete.obsolete.items in
     let listed = c.in_ok-dir.ensures.listed in
-    let are : AreObsolete c.args.is_primary listed.0 texts = record { names = c.in_ok-dir.dir; directory = listed.2; all = c.in_ok-obsolete.ensures.all; ascend = c.in_ok-obsolete.ensures.ascend } in
-    let looked = look_done g.D.Disk.seen g.D.Disk.left_since folder c.args.disk.now c.look.new.disk c.in_ok-dir.ensures.runs in
-    let purged = subst (λ (l : List (String Global)). Runs g.D.Disk.seen g.D.Disk.left_since (SyncDir folder ∷ purge_calls folder (texts_of l)) (refusal_of c.settle_and_purge.result) c.ready.new.self c.settle_and_purge.new.disk) c.deref.ensures.value c.settle_and_purge.ensures.runs in
-    inr (
-      listed.0,
-      texts,
-      listed.1,
-      are,
-      (λ reason is. only_fails c.settle_and_purge.result reason c.settle_and_purge.ensures.cause is),
-      runs_more g.D.Disk.seen g.D.Disk.left_since (ListNames folder ∷ []) (SyncDir folder ∷ purge_calls folder texts) (refusal_of c.settle_and_purge.result) c.args.disk.now c.look.new.disk c.settle_and_purge.new.disk looked
-          (runs_after g.D.Disk.seen g.D.Disk.left_since (SyncDir folder ∷ purge_calls folder texts) (refusal_of c.settle_and_purge.result) c.look.new.disk c.ready.new.self c.settle_and_purge.new.disk c.in_ok-ready.ensures.untouched purged),
-    )
+    let are : AreObsolete c.args.is_primary listed.0 (texts_of c.in_ok-obsolete.obsolete.items) = record { names = c.in_ok-dir.dir; directory = listed.2; all = c.in_ok-obsolete.ensures.all; ascend = c.in_ok-obsolete.ensures.ascend } in
+    tidies_all g.D.Disk.seen g.D.Disk.left_since folder c.args.is_primary c.args.disk.now c.look.new.disk c.ready.new.self c.settle_and_purge.new.disk listed.0 (texts_of c.in_ok-obsolete.obsolete.items) listed.1 are
+    c.in_ok-dir.ensures.runs c.in_ok-ready.ensures.untouched None (λ reason is. absurd (none_other reason is))
+    (subst (λ (l : List (String Global)). Runs g.D.Disk.seen g.D.Disk.left_since (SyncDir folder ∷ purge_calls folder (texts_of l)) None c.ready.new.self c.settle_and_purge.new.disk) c.deref.ensures.value c.in_ok-settle_and_purge.ensures.runs)
