@@ -1,0 +1,2 @@
+pub mod Suffix
+pub mod Table
