@@ -1,4 +1,8 @@
 //! The hashes of suffix folders, and a table that keeps them.
 #![tactic(auto)]
 
-mod draft;
+mod compare;
+mod text;
+
+pub use crate::compare::differing;
+pub use crate::text::suffix_hash;
