@@ -3,9 +3,10 @@
 ghost use Rattle.std.specs.BTreeMap.{get};
 ghost use Rattle.std.specs.BTreeSet.{contains};
 ghost use Rattle.std.specs.List.{All};
+ghost use Rattle.std.specs.List.Sorted.{IsStrictlySortedBy};
 ghost use Rattle.std.specs.Option.{option_or};
 ghost use Rattle.std.specs.Ordering.{nat_cmp};
-ghost use Rattle.std.specs.Prelude.{◌≡◌, ◌≢◌, ◌⊎◌, ℕ, IfOk, IsTrue, OnOk, Some, None, if◌then◌else◌, nat_eq};
+ghost use Rattle.std.specs.Prelude.{◌≡◌, ◌≢◌, ◌↔◌, ◌⊎◌, ℕ, IfOk, IsTrue, OnOk, Some, None, if◌then◌else◌, nat_eq};
 ghost use Rattle.sw_suffix.specs.Table.{AreDiffering, hash_at};
 
 use std::alloc::Global;
@@ -26,7 +27,7 @@ pub fn differing(
     let mut suffixes = BTreeSet::new(alloc);
     add_differing(&mut suffixes, a, &first, &second)?;
     add_differing(&mut suffixes, b, &first, &second)?;
-    Ok(suffixes.iter().copied().collect(alloc)?)
+    listed(alloc, &suffixes)
 }
 
 // The first hash of each suffix.
@@ -69,9 +70,28 @@ fn add_differing(
     ensures all { OnOk result (All (λ hash. get nat_cmp first.now hash.0 ≢ get nat_cmp second.now hash.0 → IsTrue (contains nat_cmp suffixes.new hash.0)) hashes.now) }
 {
     for (suffix, _) in hashes {
-        if first.get(suffix) != second.get(suffix) {
+        if is_differing(first, second, *suffix) {
             suffixes.insert(*suffix)?;
         }
     }
     Ok(())
+}
+
+// Whether two maps differ at a suffix.
+fn is_differing(
+    first: &BTreeMap<u16, [u8; 16]>,
+    second: &BTreeMap<u16, [u8; 16]>,
+    suffix: u16,
+) -> bool
+    ensures { IsTrue result ↔ (get nat_cmp first.now suffix ≢ get nat_cmp second.now suffix) }
+{
+    first.get(&suffix) != second.get(&suffix)
+}
+
+// The suffixes, ascending.
+fn listed(alloc: Global, suffixes: &BTreeSet<u16>) -> Result<Vec<u16>, NoMemory>
+    ensures items { IfOk result (λ items. items.items ≡ suffixes.now.keys) }
+    ensures ascend { IsStrictlySortedBy nat_cmp suffixes.now.keys }
+{
+    Ok(suffixes.iter().copied().collect(alloc)?)
 }
