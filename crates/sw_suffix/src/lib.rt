@@ -2,7 +2,12 @@
 #![tactic(auto)]
 
 mod compare;
+mod floors;
+mod hashes;
+mod key;
+mod table;
 mod text;
 
 pub use crate::compare::differing;
+pub use crate::table::SuffixTable;
 pub use crate::text::suffix_hash;

@@ -23,7 +23,7 @@ pub fn suffix_hash(floors: &[(Place, Floor)]) -> [u8; 16]
 }
 
 // Adds the line of a hash folder with this floor.
-fn add_line(hasher: &mut Md5, place: &Place, floor: &Floor)
+pub(crate) fn add_line(hasher: &mut Md5, place: &Place, floor: &Floor)
     ensures { (text : List ℕ) → Holds hasher.old text → Holds hasher.new (text ++ floor_line place.now floor.now) }
 {
     hasher.update(digits_of(place.hash()));
