@@ -4,6 +4,7 @@ use Rattle.std.specs.Option.{IsSome}
 use Rattle.std.specs.declared.ops.Bound.TheVariants.{Included, Unbounded}
 use Rattle.sw_hashdir.specs.declared.floor.Floor.{Floor}
 use Rattle.sw_suffix.specs.Entries.{key_cmp}
+use Rattle.sw_suffix.specs.declared.key.Key.{Key}
 use Rattle.sw_suffix.proofs.Keys.{suffix_small}
 use Rattle.sw_suffix.proofs.Ranges.{IsFirst, clear, first_from, first_least, first_of, first_past, first_some, first_sound, in_order, low_key}
 use Rattle.sw_suffix.proofs.floors.next_suffix.Goals as goal
@@ -19,7 +20,7 @@ some_value option value is = subst (λ (o : Option Floor). IsSome o) (sym is) re
 first : (c : In_ok-key) → IsFirst c.args.part c.args.from c.args.floors.now.entries c.in_ok-key.key.now c.in_ok-key.field-0-1.now
 first c =
     let range = c.range.ensures.in_range tt in
-    let entry = (c.in_ok-key.key.now, c.in_ok-key.field-0-1.now) in
+    let entry : Key × Floor = (c.in_ok-key.key.now, c.in_ok-key.field-0-1.now) in
     let here = first_of (IsEntryInRange key_cmp (Included (low_key c.args.part c.args.from)) Unbounded c.args.floors.now) c.range.result c.next.new.self entry c.in_ok-key.ensures.steps range.1 in
     record {
       after = here.0.0;
