@@ -88,9 +88,9 @@ module _ (a b : List Hashed) (first second : ℕ → Option (List ℕ)) (left : 
   all_there suffix differs =
       let apart : Differs suffix = λ same. differs (sym (left suffix) ∙ same ∙ right suffix) in
       or_false (two suffix) (λ lacks. differs (differ_somewhere (λ s. Differs s → two s ≡ true) suffix a b
-          (λ has. true_false (sym (has apart) ∙ lacks))
-          (All-weaker (λ hash. Differs hash.0 → one hash.0 ≡ true) (λ hash. Differs hash.0 → two hash.0 ≡ true) (λ hash has d. again.kept hash.0 (has d)) a once.all)
-          again.all))
+      (λ has. true_false (sym (has apart) ∙ lacks))
+      (All-weaker (λ hash. Differs hash.0 → one hash.0 ≡ true) (λ hash. Differs hash.0 → two hash.0 ≡ true) (λ hash has d. again.kept hash.0 (has d)) a once.all)
+      again.all))
     where
       true_false : true ≡ false → ⊥
       true_false is = cc

@@ -127,10 +127,13 @@ before a b f g first second less =
     ∙ ap (λ (s : ℕ). ordering_then (nat_cmp a.part b.part) (ordering_then (nat_cmp a.suffix s) z)) (sym second.suffix) ∙ less in
     elim (less_then (nat_cmp a.part b.part) (ordering_then (nat_cmp (suffix_number a.hash) (suffix_number b.hash)) z) numbers) [
       | inl part ↦ inl (below a.part b.part part)
-      | inr same ↦ inr (exact_unsigned a.part b.part same.0, elim (less_then (nat_cmp (suffix_number a.hash) (suffix_number b.hash)) z same.1) [
+      | inr same ↦ inr (
+        exact_unsigned a.part b.part same.0,
+        elim (less_then (nat_cmp (suffix_number a.hash) (suffix_number b.hash)) z same.1) [
           | inl suffix ↦ inl (below (suffix_number a.hash) (suffix_number b.hash) suffix)
           | inr tied ↦ inr (exact_unsigned (suffix_number a.hash) (suffix_number b.hash) tied.0, tied.1)
-        ])
+        ],
+      )
     ]
 
 pub in_order : (entries : Entries) → AreSound entries → IsStrictlySortedBy key_cmp (keys_of entries) → AllPairs IsBefore (floors_of entries)

@@ -39,12 +39,7 @@ pub(crate) fn hashes_of(
 }
 
 // The hash of a suffix: the one that is kept, or one from scratch, which is kept from then on.
-fn hash_of(
-    floors: &Floors,
-    kept: &mut Kept,
-    part: u32,
-    suffix: u16,
-) -> Result<[u8; 16], NoMemory>
+fn hash_of(floors: &Floors, kept: &mut Kept, part: u32, suffix: u16) -> Result<[u8; 16], NoMemory>
     requires sound { AreSound floors.now.entries }
     requires kept { AreKept (floors_of floors.now.entries) kept.old.entries }
     requires suffix { suffix < 4096 }

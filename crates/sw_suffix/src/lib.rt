@@ -11,3 +11,6 @@ mod text;
 pub use crate::compare::differing;
 pub use crate::table::SuffixTable;
 pub use crate::text::suffix_hash;
+
+#[cfg(test)]
+mod tests;

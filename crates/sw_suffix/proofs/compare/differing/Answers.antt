@@ -15,9 +15,9 @@ pub returns : goal.returns
 returns c =
     let keys = c.add_differing-2.new.suffixes.keys in
     let whole : AreDiffering c.args.a.now c.args.b.now keys = are_differing c.args.a.now c.args.b.now (get nat_cmp c.in_ok-first.first) (get nat_cmp c.in_ok-second.second) c.in_ok-first.ensures c.in_ok-second.ensures
-        (contains nat_cmp c.new-suffixes.result) (contains nat_cmp c.add_differing.new.suffixes) (contains nat_cmp c.add_differing-2.new.suffixes)
-        (λ suffix has. true_false (sym has ∙ ap (λ (keys : List ℕ). list_any (eq_by_cmp nat_cmp suffix) keys) c.new-suffixes.ensures.empty))
-        (record { kept = c.in_ok-add_differing.ensures.kept; added = c.in_ok-add_differing.ensures.added; all = c.in_ok-add_differing.ensures.all })
-        (record { kept = c.in_ok-add_differing-2.ensures.kept; added = c.in_ok-add_differing-2.ensures.added; all = c.in_ok-add_differing-2.ensures.all })
-        keys (λ suffix. refl) c.listed.ensures.ascend in
+    (contains nat_cmp c.new-suffixes.result) (contains nat_cmp c.add_differing.new.suffixes) (contains nat_cmp c.add_differing-2.new.suffixes)
+    (λ suffix has. true_false (sym has ∙ ap (λ (keys : List ℕ). list_any (eq_by_cmp nat_cmp suffix) keys) c.new-suffixes.ensures.empty))
+    (record { kept = c.in_ok-add_differing.ensures.kept; added = c.in_ok-add_differing.ensures.added; all = c.in_ok-add_differing.ensures.all })
+    (record { kept = c.in_ok-add_differing-2.ensures.kept; added = c.in_ok-add_differing-2.ensures.added; all = c.in_ok-add_differing-2.ensures.all })
+    keys (λ suffix. refl) c.listed.ensures.ascend in
     IfOk-weaker c.listed.result (λ items. items.items ≡ keys) (λ suffixes. AreDiffering c.args.a.now c.args.b.now suffixes.items) (λ items is. subst (λ list. AreDiffering c.args.a.now c.args.b.now list) (sym is) whole) c.listed.ensures.items

@@ -24,9 +24,9 @@ loop-key-preserved c =
       text ++ line,
       c.add_line.ensures text c.loop-key.invariant.1,
       append_assoc text line (lines c.next.new.self)
-      ∙ ap (λ (place : PlaceModel). text ++ (floor_line place c.in-Some.floor.now ++ lines c.next.new.self)) c.place.ensures
-      ∙ ap (λ (entries : Entries). text ++ lines entries) (sym c.in-Some.ensures.steps)
-      ∙ c.loop-key.invariant.2,
+          ∙ ap (λ (place : PlaceModel). text ++ (floor_line place c.in-Some.floor.now ++ lines c.next.new.self)) c.place.ensures
+          ∙ ap (λ (entries : Entries). text ++ lines entries) (sym c.in-Some.ensures.steps)
+          ∙ c.loop-key.invariant.2,
     )
 
 pub returns : goal.returns
