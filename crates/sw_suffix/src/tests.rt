@@ -1,5 +1,8 @@
 //! Hashes of suffix folders, tables of floors, and suffixes at which two lists differ.
 
+ghost use Rattle.std.specs.Prelude.{◌≡◌, IfOk};
+ghost use Rattle.sw_hashpath.specs.Place.{IsPlace};
+
 use crate::{SuffixTable, differing, suffix_hash};
 use hex::FromHex;
 use std::alloc::Global;
@@ -13,7 +16,9 @@ use sw_types::Stamp;
 const POWER: u32 = 4;
 
 // The place of a hash, whose digits these are.
-fn place(digits: &str) -> Result<Place, Fail> {
+fn place(digits: &str) -> Result<Place, Fail>
+    ensures { IfOk result (λ place. IsPlace 4 place) }
+{
     Ok(place_of(<[u8; 16] as FromHex>::from_hex(digits)?, POWER))
 }
 
@@ -47,21 +52,31 @@ fn hashes_the_lines_of_floors(rt: HostRuntime) -> Result<(), Fail> {
     Ok(())
 }
 
-// Expects these suffixes with the hashes of these floors, and the same again.
+// Expects these suffixes with the hashes of these floors.
 fn expect_hashes(
     rt: &impl Abort,
     alloc: Global,
     table: &mut SuffixTable,
     part: u32,
     suffixes: &[(u16, &[(Place, Floor)])],
-) -> Result<(), Fail> {
-    for _ in 0..2u8 {
-        let hashes = table.hashes(alloc, part)?;
-        assert_eq!(rt; hashes.len(), suffixes.len());
-        for (found, (suffix, floors)) in hashes.iter().zip(suffixes) {
-            assert_eq!(rt; *found, (*suffix, suffix_hash(floors)));
-        }
+) -> Result<(), Fail>
+    ensures { table.new ≡ table.old }
+{
+    let hashes = table.hashes(alloc, part)?;
+    assert_eq!(rt; hashes.len(), suffixes.len());
+    for (found, (suffix, floors)) in hashes.iter().zip(suffixes) {
+        assert_eq!(rt; *found, (*suffix, suffix_hash(floors)));
     }
+    Ok(())
+}
+
+// Gives a place the floor so many units after 1000000000.00000.
+fn give(table: &mut SuffixTable, place: Place, later: u64, kind: FloorKind) -> Result<(), Fail>
+    requires { IsPlace table.old.power place }
+    ensures { table.new.power ≡ table.old.power }
+{
+    let floor = floor(later, kind)?;
+    table.set(place, Some(floor))?;
     Ok(())
 }
 
@@ -72,25 +87,31 @@ fn keeps_the_hashes_of_suffixes(rt: HostRuntime) -> Result<(), Fail> {
     let late = place("1f000000000000000000000000000f72")?;
     let alone = place("10000000000000000000000000000001")?;
     let apart = place("20000000000000000000000000000f72")?;
-    let durable = floor(0, FloorKind::Durable)?;
-    let tombstone = floor(1, FloorKind::Tombstone)?;
     let mut table = SuffixTable::new(alloc, POWER);
     assert_eq!(rt; table.power(), POWER);
-    expect_hashes(&rt, alloc, &mut table, 1, &[])?;
-    for place in [late, apart, alone, early] {
-        table.set(place, Some(durable))?;
-    }
-    let both = [(early, durable), (late, durable)];
-    let one = [(alone, durable)];
-    let other = [(apart, durable)];
-    expect_hashes(&rt, alloc, &mut table, 1, &[(1, &one), (3954, &both)])?;
+    give(&mut table, late, 0, FloorKind::Durable)?;
+    give(&mut table, apart, 1, FloorKind::Durable)?;
+    give(&mut table, alone, 2, FloorKind::Durable)?;
+    give(&mut table, early, 3, FloorKind::Durable)?;
+    let one = [(alone, floor(2, FloorKind::Durable)?)];
+    let two = [
+        (early, floor(3, FloorKind::Durable)?),
+        (late, floor(0, FloorKind::Durable)?),
+    ];
+    let other = [(apart, floor(1, FloorKind::Durable)?)];
+    expect_hashes(&rt, alloc, &mut table, 0, &[])?;
+    expect_hashes(&rt, alloc, &mut table, 1, &[(1, &one), (3954, &two)])?;
+    expect_hashes(&rt, alloc, &mut table, 1, &[(1, &one), (3954, &two)])?;
     expect_hashes(&rt, alloc, &mut table, 2, &[(3954, &other)])?;
-    table.set(late, Some(tombstone))?;
-    let both = [(early, durable), (late, tombstone)];
-    expect_hashes(&rt, alloc, &mut table, 1, &[(1, &one), (3954, &both)])?;
+    give(&mut table, late, 4, FloorKind::Tombstone)?;
+    let two = [
+        (early, floor(3, FloorKind::Durable)?),
+        (late, floor(4, FloorKind::Tombstone)?),
+    ];
+    expect_hashes(&rt, alloc, &mut table, 1, &[(1, &one), (3954, &two)])?;
     table.set(early, None)?;
     table.set(alone, None)?;
-    let one = [(late, tombstone)];
+    let one = [(late, floor(4, FloorKind::Tombstone)?)];
     expect_hashes(&rt, alloc, &mut table, 1, &[(3954, &one)])?;
     expect_hashes(&rt, alloc, &mut table, 2, &[(3954, &other)])?;
     Ok(())
