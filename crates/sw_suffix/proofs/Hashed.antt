@@ -1,14 +1,14 @@
 -- Hashes of the suffixes of a partition, up to one of them.
-use Rattle.std.proofs.Common.{◌≡◌, ◌≢◌, ◌⊎◌, inl, inr, ◌↔◌, ◌+◌, ◌<◌, ◌≤◌, ℕ, true, false, List, [], ◌∷◌, ◌++◌, Contains, refl, sym, ap, subst, ◌∙◌, arith}
+use Rattle.std.proofs.Common.{◌≡◌, ◌≢◌, inl, inr, ◌↔◌, ◌+◌, ◌<◌, ◌≤◌, ℕ, List, [], ◌∷◌, ◌++◌, Contains, refl, sym, ap, subst, arith}
 use Rattle.std.specs.List.{All, AllPairs}
 use Rattle.std.proofs.lemmas.Bool.Decides.{leb_tells}
-use Rattle.std.proofs.lemmas.List.Elements.{All-nil, All-push, All-weaker, Contains-append_left, Contains-push, Contains-push_cases}
+use Rattle.std.proofs.lemmas.List.Elements.{All-push, All-weaker, Contains-append_left, Contains-push, Contains-push_cases}
 use Rattle.std.proofs.lemmas.List.Quantifiers.{all_pairs_push}
 use Rattle.md5.specs.Md5.{md5}
 use Rattle.sw_hashpath.specs.Place.{PlaceModel}
 use Rattle.sw_hashdir.specs.declared.floor.Floor.{Floor}
 use Rattle.sw_suffix.specs.Suffix.{suffix_text}
-use Rattle.sw_suffix.specs.Table.{AreHashes, Hashed, in_suffix, suffixes_of}
+use Rattle.sw_suffix.specs.Table.{Hashed, in_suffix, suffixes_of}
 
 -- the hashes of the suffixes below one
 pub record AreHashesBelow (part from : ℕ) (floors : List (PlaceModel × Floor)) (hashes : List Hashed) : Type 0 where
@@ -20,14 +20,6 @@ pub record AreHashesBelow (part from : ℕ) (floors : List (PlaceModel × Floor)
 suffixes_of-push : (hashes : List Hashed) (hash : Hashed) → suffixes_of (hashes ++ hash ∷ []) ≡ suffixes_of hashes ++ hash.0 ∷ []
 suffixes_of-push [] hash = refl
 suffixes_of-push (first ∷ hashes) hash = ap (λ (rest : List ℕ). first.0 ∷ rest) (suffixes_of-push hashes hash)
-
-pub hashes_none : (part : ℕ) (floors : List (PlaceModel × Floor)) → AreHashesBelow part 0 floors []
-hashes_none part floors = record {
-  suffixes = λ suffix. (λ has. absurd (omega (arith, has.1)), λ below. absurd (omega (arith, below.0)));
-  ascend = λ i j d lt within. absurd (omega arith);
-  low = All-nil (λ (hash : Hashed). hash.0 < 0);
-  scratch = All-nil (λ (hash : Hashed). hash.1 ≡ md5 (suffix_text (in_suffix part hash.0 floors)));
-}
 
 module _ (part from : ℕ) (floors : List (PlaceModel × Floor)) (hashes : List Hashed) (before : AreHashesBelow part from floors hashes) where
   -- the next suffix's
@@ -58,14 +50,3 @@ module _ (part from : ℕ) (floors : List (PlaceModel × Floor)) (hashes : List 
         low = All-push (λ (h : Hashed). h.0 < suffix + 1) hashes entry (All-weaker (λ (h : Hashed). h.0 < from) (λ (h : Hashed). h.0 < suffix + 1) (λ h less. omega (arith, less, le)) hashes before.low) (omega arith);
         scratch = All-push (λ (h : Hashed). h.1 ≡ md5 (suffix_text (in_suffix part h.0 floors))) hashes entry before.scratch scratch;
       }
-
-  -- all of them, where no suffix is left
-  pub hashes_all : ((s : ℕ) → from ≤ s → in_suffix part s floors ≡ []) → AreHashes part floors hashes
-  hashes_all none = record {
-    suffixes = λ s. (
-      λ has. ((before.suffixes s).0 has).1,
-      λ some. elim (leb_tells from s) [ inr low ↦ (before.suffixes s).1 (low.1, some) | inl high ↦ absurd (some (none s high.1)) ],
-    );
-    ascend = before.ascend;
-    scratch = before.scratch;
-  }

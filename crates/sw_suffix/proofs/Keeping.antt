@@ -1,6 +1,5 @@
 -- Hashes that are kept, once one more is or one was forgotten.
 use Rattle.std.proofs.Common.{◌≡◌, ℕ, Bool, true, false, cond, Option, Some, None, List, arith, refl, sym, ap, subst, ◌∙◌}
-use Rattle.std.specs.Bool.{Decides}
 use Rattle.std.specs.BTreeMap.{is_at}
 use Rattle.std.specs.Cmp.{Equal-is}
 use Rattle.std.specs.Map.{lookup}

@@ -1,12 +1,11 @@
 -- The order of keys, and the places that they stand for.
-use Rattle.std.proofs.Common.{◌≡◌, ◌<◌, ◌≤◌, ℕ, zero, suc, Bool, true, false, ◌&&◌, nat_eq, not, Option, Some, None, cond, List, [], ◌∷◌, length, replicate, refl, sym, ap, subst, ◌∙◌, arith}
+use Rattle.std.proofs.Common.{◌≡◌, ◌<◌, ℕ, zero, suc, Bool, true, false, ◌&&◌, nat_eq, Option, Some, cond, List, [], ◌∷◌, length, replicate, refl, sym, ap, subst, ◌∙◌, arith}
 use Rattle.std.specs.Bool.{Decides, one_answer}
 use Rattle.std.specs.BTreeMap.{is_at}
 use Rattle.std.specs.Cmp.{Equal-is, IsTotalOrder}
 use Rattle.std.specs.Cmp.Lexicographic.{nat_list_eq_equiv, pointwise, same_text, slice_cmp}
-use Rattle.std.specs.List.{All}
 use Rattle.std.specs.Map.{lookup}
-use Rattle.std.specs.Ordering.{is_eq, is_gt, is_le, nat_cmp, ordering_then}
+use Rattle.std.specs.Ordering.{is_eq, is_gt, nat_cmp, ordering_then}
 use Rattle.std.specs.declared.cmp.Ordering.{Ordering}
 use Rattle.std.specs.declared.cmp.Ordering.TheVariants.{Equal, Greater, Less}
 use Rattle.std.proofs.lemmas.Bool.{eq-eqb, eqb-true}
@@ -14,7 +13,7 @@ use Rattle.std.proofs.lemmas.Bool.Decides.{nat_tests}
 use Rattle.std.proofs.lemmas.Cmp.{eq_by_cmp_equiv, nat_cmp_total, nat_list_cmp_total, on_total, then_total}
 use Rattle.std.proofs.lemmas.List.Elements.{All-head, All-tail}
 use Rattle.std.proofs.lemmas.Map.Lookups.{exact_bytes, exact_pairs, exact_unsigned}
-use Rattle.sw_hashpath.specs.Place.{IsHash, PlaceModel}
+use Rattle.sw_hashpath.specs.Place.{PlaceModel}
 use Rattle.sw_hashdir.specs.declared.floor.Floor.{Floor}
 use Rattle.sw_suffix.specs.Entries.{AreSound, Entries, IsKey, floors_of, key_cmp, key_of, key_place}
 use Rattle.sw_suffix.specs.Suffix.{suffix_number}
@@ -95,10 +94,5 @@ in_another key sound part suffix apart =
     not_both (nat_eq key.part part) (nat_eq (suffix_number key.hash) suffix) (λ p s. apart (sym (eqb-true key.part part p)) (sym (sound.suffix ∙ eqb-true (suffix_number key.hash) suffix s)))
 
 -- and one that is
-pub in_this : (key : Key) → IsKey key → (part suffix : ℕ) → nat_eq key.part part && nat_eq (suffix_number key.hash) suffix ≡ true → (key.part ≡ part) × (key.suffix ≡ suffix)
-in_this key sound part suffix is =
-    let parts = both (nat_eq key.part part) (nat_eq (suffix_number key.hash) suffix) is in
-    (eqb-true key.part part parts.0, sound.suffix ∙ eqb-true (suffix_number key.hash) suffix parts.1)
-
 pub is_in : (key : Key) → IsKey key → (part suffix : ℕ) → key.part ≡ part → key.suffix ≡ suffix → nat_eq key.part part && nat_eq (suffix_number key.hash) suffix ≡ true
 is_in key sound part suffix p s = and_both (nat_eq key.part part) (nat_eq (suffix_number key.hash) suffix) (eq-eqb key.part part p) (eq-eqb (suffix_number key.hash) suffix (sym sound.suffix ∙ s))

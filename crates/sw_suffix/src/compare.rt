@@ -13,7 +13,7 @@ use std::alloc::Global;
 use std::collections::{BTreeMap, BTreeSet};
 use sw_types::NoMemory;
 
-/// The suffixes, from 0 to 4095, at which two lists of suffixes with their hashes differ, ascending: those that one of them
+/// The suffixes at which two lists of suffixes with their hashes differ, ascending: those that one of them
 /// lacks, and those that both have with different hashes. Where a list has a suffix more than once, its first hash counts.
 pub fn differing(
     alloc: Global,

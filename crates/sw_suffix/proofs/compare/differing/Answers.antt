@@ -5,7 +5,7 @@ use Rattle.std.specs.List.{list_any}
 use Rattle.std.specs.Ordering.{eq_by_cmp, nat_cmp}
 use Rattle.std.proofs.lemmas.Result.{IfOk-weaker}
 use Rattle.sw_suffix.specs.Table.{AreDiffering}
-use Rattle.sw_suffix.proofs.Gathered.{Adds, are_differing}
+use Rattle.sw_suffix.proofs.Gathered.{are_differing}
 use Rattle.sw_suffix.proofs.compare.differing.Goals as goal
 
 true_false : true ≡ false → ⊥

@@ -1,4 +1,4 @@
-use Rattle.std.proofs.Common.{◌≡◌, ◌++◌, ◌∷◌, List, [], ℕ, append_assoc, ap, sym, ◌∙◌}
+use Rattle.std.proofs.Common.{◌++◌, List, [], ℕ, append_assoc, ap, sym, ◌∙◌}
 use Rattle.md5.specs.Md5.{md5}
 use Rattle.std.proofs.lemmas.List.{append-nil}
 use Rattle.sw_suffix.specs.Entries.{Entries, floors_of}
