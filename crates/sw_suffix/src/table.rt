@@ -16,6 +16,9 @@ use sw_hashpath::Place;
 use sw_types::NoMemory;
 
 /// The floors of places, by partition, suffix and hash, and the hashes of suffixes that were asked for and are still right.
+/// A floor is given in time that grows with the logarithm of the number of places. The hashes of a partition are found in
+/// time that grows with that logarithm for each of its suffixes, and with the number of places in those whose hash is not
+/// kept.
 #[derive(Debug, Drop)]
 pub struct SuffixTable {
     power: u32,
