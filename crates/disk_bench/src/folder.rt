@@ -5,7 +5,7 @@ ghost use Rattle.sw_disk.specs.Answers.{HasFile, LacksFile};
 ghost use Rattle.sw_hashpath.specs.FileName.{IsFileName, file_name_text};
 ghost use Rattle.sw_memdisk.specs.Memory.{state_of};
 
-use anyhow::{Context, Result, bail, ensure};
+use anyhow::{Context, Result, bail};
 use std::alloc::Global;
 use sw_disk::Disk;
 use sw_hashpath::FileName;
@@ -40,7 +40,6 @@ pub fn stamp(later: u64) -> Result<Stamp> {
 pub fn start(alloc: Global, failing: &[u64]) -> Result<MemDisk> {
     let mut disk = MemDisk::new(alloc, 1 << 30, failing.to_vec(alloc)?);
     for name in START {
-        ensure!(name.len() <= 96, "a name is too long");
         keep(alloc, &mut disk, name, name.as_bytes())?;
     }
     disk.sync_dir(FOLDER)?;
