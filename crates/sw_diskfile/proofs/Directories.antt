@@ -9,8 +9,7 @@ use Rattle.sw_hashpath.specs.FileName.{IsFileName, file_name_text}
 use Rattle.sw_hashpath.specs.declared.file_name.FileName.{FileName}
 use Rattle.sw_hashpath.specs.declared.file_name.FileName.TheVariants.{Data}
 use Rattle.sw_hashdir.specs.Directory.{IsDirectory}
-use Rattle.sw_hashdir.specs.Obsolete.{IsAfter, Replaces}
-use Rattle.sw_diskfile.specs.Names.{IsWithout}
+use Rattle.sw_hashdir.specs.Obsolete.{IsAfter, IsWithout, Replaces}
 use Rattle.sw_diskfile.proofs.Lists.{Contains-cases, Contains-first, Contains-later, Contains-map, Contains-none, kept, keeps, mapped}
 use Rattle.sw_hashdir.proofs.Texts.{one_text}
 

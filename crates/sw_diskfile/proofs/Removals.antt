@@ -6,7 +6,7 @@ use Rattle.sw_hashpath.specs.FileName.{IsFileName, file_name_text}
 use Rattle.sw_hashpath.specs.declared.file_name.FileName.{FileName}
 use Rattle.sw_hashdir.specs.Directory.{IsDirectory, IsFloor}
 use Rattle.sw_hashdir.specs.declared.floor.Floor.{Floor}
-use Rattle.sw_diskfile.specs.Names.{IsWithout}
+use Rattle.sw_hashdir.specs.Obsolete.{IsWithout}
 use Rattle.sw_diskfile.specs.Normal.{AreThoseLeft, IsObsoleteText}
 use Rattle.sw_diskfile.proofs.Directories.{dropped_directory, passes_if_other, removed_texts, same_or_other}
 use Rattle.sw_diskfile.proofs.Lists.{kept, keeps}

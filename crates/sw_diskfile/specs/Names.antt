@@ -1,5 +1,5 @@
 -- How the directory of a folder changes, and how a folder is looked at.
-use Rattle.std.specs.Prelude.{◌≡◌, ◌≢◌, ◌⊎◌, ◌↔◌, List, Contains, Option, Some, None, ℕ}
+use Rattle.std.specs.Prelude.{◌≡◌, ◌⊎◌, List, Option, Some, None, ℕ}
 use Rattle.sw_disk.specs.Answers.{IsListing, names_of}
 use Rattle.sw_disk.specs.Calls.{Call}
 use Rattle.sw_disk.specs.Folder.{Folder, files_of}
@@ -9,7 +9,7 @@ use Rattle.sw_disk.specs.declared.refusal.DiskRefusal.{DiskRefusal}
 use Rattle.sw_disk.specs.declared.refusal.DiskRefusal.TheVariants.{NoMemory}
 use Rattle.sw_hashpath.specs.declared.file_name.FileName.{FileName}
 use Rattle.sw_hashdir.specs.Directory.{IsDirectory}
-use Rattle.sw_hashdir.specs.Obsolete.{IsAfter}
+use Rattle.sw_hashdir.specs.Obsolete.{IsAfter, IsWithout}
 
 -- these are the names of the folder's files
 abbrev pub IsDirectoryOf : Folder → List FileName → Type 0
@@ -22,10 +22,6 @@ IsListed told name texts = IfTold told (λ state. IsListing (names_of (files_of 
 -- the directory becomes that once this name was made
 abbrev pub MakesName : FileName → (before after : Folder) → Type 0
 MakesName made before after = (names later : List FileName) → IsDirectoryOf before names → IsAfter made names later → IsDirectoryOf after later
-
--- these of the names that are not that one
-abbrev pub IsWithout : FileName → (names rest : List FileName) → Type 0
-IsWithout gone names rest = (name : FileName) → Contains rest name ↔ (Contains names name × (name ≢ gone))
 
 -- the directory becomes that without this name
 abbrev pub DropsName : FileName → (before after : Folder) → Type 0

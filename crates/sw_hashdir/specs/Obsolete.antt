@@ -1,5 +1,5 @@
 -- Names that are obsolete, and the names after a change.
-use Rattle.std.specs.Prelude.{◌≡◌, ◌⊎◌, ◌↔◌, ◌<◌, Bool, true, false, List, Contains, Some}
+use Rattle.std.specs.Prelude.{◌≡◌, ◌≢◌, ◌⊎◌, ◌↔◌, ◌<◌, Bool, true, false, List, Contains, Some}
 use Rattle.sw_hashpath.specs.declared.file_name.FileName.{FileName}
 use Rattle.sw_hashpath.specs.declared.file_name.FileName.TheVariants.{Data, Tombstone}
 use Rattle.sw_hashdir.specs.Directory.{IsFloor}
@@ -33,3 +33,7 @@ Replaces (Tombstone stamp) other = ⊥
 -- the names once this one was made
 abbrev pub IsAfter : FileName → List FileName → List FileName → Type 0
 IsAfter made names after = (name : FileName) → Contains after name ↔ ((name ≡ made) ⊎ (Contains names name × (Replaces made name → ⊥)))
+
+-- these of the names that are not that one
+abbrev pub IsWithout : FileName → (names rest : List FileName) → Type 0
+IsWithout gone names rest = (name : FileName) → Contains rest name ↔ (Contains names name × (name ≢ gone))

@@ -1,17 +1,19 @@
 //! Directories of folders.
 
-ghost use Rattle.std.specs.Prelude.{◌≡◌, ◌≢◌, ◌↔◌, ◌⊎◌, ◌∷◌, ◌++◌, [], List, Contains, IfOk, Some, map, string_bytes};
+ghost use Rattle.std.specs.Prelude.{◌≡◌, ◌≢◌, ◌↔◌, ◌⊎◌, ◌∷◌, ◌++◌, [], Bool, List, Contains, IfOk, IsTrue, MatchOption, Some, map, string_bytes};
 ghost use Rattle.std.specs.List.{AllPairs};
 ghost use Rattle.sw_hashpath.specs.FileName.{IsFileName};
 ghost use Rattle.sw_hashpath.specs.declared.file_name.FileName.{FileName as AFileName};
-ghost use Rattle.sw_hashdir.specs.Directory.{IsDirectory, IsFloor};
-ghost use Rattle.sw_hashdir.specs.Obsolete.{IsAfter, Replaces};
+ghost use Rattle.sw_hashpath.specs.declared.file_name.FileName.TheVariants.{Data, Tombstone};
+ghost use Rattle.sw_hashdir.specs.Directory.{HasEntry, IsDirectory, IsFloor};
+ghost use Rattle.sw_hashdir.specs.Obsolete.{IsAfter, IsWithout, Replaces};
 
+use crate::entry::Entry;
 use crate::floor::{Floor, FloorKind};
 use std::alloc::Global;
 use std::marker::Model;
 use sw_hashpath::FileName;
-use sw_types::NoMemory;
+use sw_types::{NoMemory, Stamp};
 
 /// The directory of a folder: the names of its files, each once.
 #[derive(Debug, Drop)]
@@ -74,6 +76,54 @@ impl HashDir {
         }
         add(&mut names, made)?;
         Ok(HashDir { names })
+    }
+
+    /// The directory once a file of this name is gone.
+    pub fn without(&self, alloc: Global, gone: FileName) -> Result<HashDir, NoMemory>
+        ensures { IfOk result (λ dir. IsWithout gone self.now dir) }
+    {
+        let mut names = Vec::new(alloc);
+        for name in &self.names {
+            if *name != gone {
+                names.push(*name)?;
+            }
+        }
+        Ok(HashDir { names })
+    }
+}
+
+impl HashDir {
+    /// The entry of an index at a stamp, if it is there: durable where it has its durable name. It takes no memory.
+    pub fn entry(&self, stamp: Stamp, index: u32) -> Option<Entry>
+        ensures { MatchOption result ((durable : Bool) → Contains self.now (Data stamp index durable) → ⊥) (λ entry. (entry.stamp ≡ stamp) × (entry.index ≡ index) × HasEntry self.now entry) }
+    {
+        let named = |durable| FileName::Data {
+            stamp,
+            index,
+            durable,
+        };
+        if self.names.contains(&named(true)) {
+            return Some(Entry {
+                stamp,
+                index,
+                durable: true,
+            });
+        }
+        if self.names.contains(&named(false)) {
+            return Some(Entry {
+                stamp,
+                index,
+                durable: false,
+            });
+        }
+        None
+    }
+
+    /// Whether there is a tombstone of this stamp. It takes no memory.
+    pub fn has_tombstone(&self, stamp: Stamp) -> bool
+        ensures { IsTrue result ↔ Contains self.now (Tombstone stamp) }
+    {
+        self.names.contains(&FileName::Tombstone { stamp })
     }
 }
 

@@ -130,3 +130,38 @@ fn takes_the_place_of_the_plain_name(rt: HostRuntime) -> Result<(), Fail> {
     assert_eq!(rt; directory.listing(alloc)?.entries(), [entry].as_slice());
     Ok(())
 }
+
+#[test]
+fn answers_once_a_name_is_gone(rt: HostRuntime) -> Result<(), Fail> {
+    let alloc = rt.alloc();
+    let texts = [
+        "1000000000.00000#1.data",
+        "1000000000.00000#1#d.data",
+        "1000000000.00000#2.data",
+        "1000000000.00001.ts",
+    ];
+    let directory = directory(alloc, &texts)?;
+    // The name that is gone; a stamp and an index, whether their entry is durable, and whether the stamp has a tombstone.
+    let cases = [
+        ("1000000000.00000#3.data", 0, 1, Some(true), false),
+        ("1000000000.00000#3.data", 0, 2, Some(false), false),
+        ("1000000000.00000#3.data", 0, 3, None, false),
+        ("1000000000.00000#3.data", 1, 1, None, true),
+        ("1000000000.00000#1#d.data", 0, 1, Some(false), false),
+        ("1000000000.00000#1.data", 0, 1, Some(true), false),
+        ("1000000000.00000#2.data", 0, 2, None, false),
+        ("1000000000.00001.ts", 1, 1, None, false),
+    ];
+    for (gone, later, index, durable, has_tombstone) in cases {
+        let directory = directory.without(alloc, FileName::read(gone).ok_or("name")?)?;
+        let stamp = stamp(later)?;
+        let entry = durable.map(|durable| Entry {
+            stamp,
+            index,
+            durable,
+        });
+        assert_eq!(rt; directory.entry(stamp, index), entry);
+        assert_eq!(rt; directory.has_tombstone(stamp), has_tombstone);
+    }
+    Ok(())
+}
