@@ -138,6 +138,9 @@ pub trait Disk {
 
     ghost telling: { (disk : Self) → IsTelling tells (seen disk).told };
 
+    /// The bytes of a folder's files are among those that are used.
+    ghost within: { (disk : Self) (folder : List ℕ) → IfTold (seen disk).told (λ state. size_of (state.folder folder) ≤ state.used) };
+
     /// A crash now leaves what it may leave, and nothing else.
     ghost now: { (disk : Self) (folder : List ℕ) (image : List File) →
         IfTold (seen disk).told (λ state. IsImage (state.folder folder) image → left_since disk (seen disk).moment folder image) };

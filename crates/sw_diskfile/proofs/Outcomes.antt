@@ -14,7 +14,6 @@ use Rattle.sw_disk.proofs.Images.{image_of_all}
 use Rattle.sw_disk.proofs.Settling.{carry}
 use Rattle.sw_diskfile.proofs.Kept.{always}
 use Rattle.sw_diskfile.specs.Changes.{AreSynced, Changes, IfBothTold, IsAsBefore, IsMadeStable, Keeps, IsFirstPart, IsSettled, Stands, SurvivesPart}
-use Rattle.sw_diskfile.specs.Names.{RunsUnlessMemory}
 use Rattle.sw_diskfile.proofs.Changed.{Makes, all_files, as_before, done_files, image_stable, part_survives, quiet_part, run_pending}
 use Rattle.sw_diskfile.proofs.Steps.{changes_by, run_images}
 use Rattle.sw_diskfile.proofs.Synced.{all_synced, settled_synced, survive_exactly, take_synced}
@@ -196,9 +195,6 @@ not_full (Err Failed) none = tt
 not_full (Err NoMemory) none = tt
 not_full (Err (Full need free)) none = none need free refl
 
-pub err_refusal : {T : Type 0} (result : Result T DiskRefusal) (reason : DiskRefusal) → IsErrOf result reason → refusal_of result ≡ Some reason
-err_refusal result reason is = ap refusal_of is
-
 -- where it only fails
 pub only_fails : (result : Result (Unit {0}) DiskRefusal) (reason : DiskRefusal) → IfErr result (λ refusal. refusal ≡ Failed) → refusal_of result ≡ Some reason → reason ≡ Failed
 only_fails (Ok unit) reason cause is = absurd (cc)
@@ -272,11 +268,6 @@ module _ {D : Type 0} (seen : D → Seen) (left_since : D → Past) (These : Lis
         run.steps run.rest (seen a).told run.split (now name) (λ since later image. earlier since later name image) (λ t image. run.nothing_else t name image))
         some;
   }
-
-  -- also where memory is wanted after all of them
-  pub keeps_unless_memory : (refusal : Option DiskRefusal) → RunsUnlessMemory seen left_since calls refusal a b → Keeps seen left_since These a b
-  keeps_unless_memory refusal (inl run) = keeps_run refusal run
-  keeps_unless_memory refusal (inr want) = keeps_run None want.1
 
 -- ---- where it was refused before any change
 

@@ -45,6 +45,7 @@ pub fn store<D: Disk>(
     ensures room { TakesRoom folder.now (D.seen disk.old) (D.seen disk.new) }
     ensures full { (need free : ℕ) → IsErrOf result (DiskRefusal.Full need free) → IsFull need free (length bytes.now) (D.seen disk.old).told }
     ensures fits { OnOk result (IfTold (D.seen disk.old).told (λ state. length bytes.now ≤ free_of state)) }
+    ensures overfull { (reason : ARefusal) → refusal_of result ≡ Some reason → IfTold (D.seen disk.old).told (λ state. free_of state < length bytes.now → Runs D.seen D.left_since (WriteTmp bytes.now ∷ []) (Some reason) disk.old disk.new) }
 {
     let name = FileName::Data {
         stamp,
@@ -99,6 +100,7 @@ fn make_file<D: Disk>(
     ensures room { TakesRoom folder.now (D.seen disk.old) (D.seen disk.new) }
     ensures full { (need free : ℕ) → IsErrOf result (DiskRefusal.Full need free) → IsFull need free (length bytes.now) (D.seen disk.old).told }
     ensures fits { OnOk result (IfTold (D.seen disk.old).told (λ state. length bytes.now ≤ free_of state)) }
+    ensures overfull { (reason : ARefusal) → refusal_of result ≡ Some reason → IfTold (D.seen disk.old).told (λ state. free_of state < length bytes.now → Runs D.seen D.left_since (WriteTmp bytes.now ∷ []) (Some reason) disk.old disk.new) }
 {
     file_by_calls(alloc, disk, folder, name, bytes)
 }
@@ -119,6 +121,7 @@ fn file_by_calls<D: Disk>(
     ensures room { TakesRoom folder.now (D.seen disk.old) (D.seen disk.new) }
     ensures full { (need free : ℕ) → IsErrOf result (DiskRefusal.Full need free) → IsFull need free (length bytes.now) (D.seen disk.old).told }
     ensures fits { OnOk result (IfTold (D.seen disk.old).told (λ state. length bytes.now ≤ free_of state)) }
+    ensures overfull { (reason : ARefusal) → refusal_of result ≡ Some reason → IfTold (D.seen disk.old).told (λ state. free_of state < length bytes.now → Runs D.seen D.left_since (WriteTmp bytes.now ∷ []) (Some reason) disk.old disk.new) }
 {
     let text = name.print(alloc)?;
     disk.ready(alloc, folder, 1)?;

@@ -3,12 +3,14 @@ use Rattle.std.proofs.Common.{◌≡◌, ◌⊎◌, inl, inr, ⊎_elim, ℕ, suc
 use Rattle.std.proofs.lemmas.Bool.{cases_lt, le-leb}
 use Rattle.std.proofs.lemmas.Bool.Decides.{leb_tells}
 use Rattle.std.proofs.lemmas.List.{take_min}
+use Rattle.std.proofs.lemmas.List.Sums.{sum_by-cons}
 use Rattle.std.proofs.Math.Seq.{take-add}
 use Rattle.sw_disk.proofs.Images.{all_changed-append}
-use Rattle.sw_disk.specs.Folder.{Change, File, IsImage, Survive, all_changed}
+use Rattle.sw_disk.specs.Folder.{Change, File, IsImage, Survive, all_changed, same_name}
 use Rattle.sw_disk.specs.Runs.{IsTelling}
+use Rattle.sw_disk.specs.State.{size_of}
 use Rattle.sw_memdisk.specs.Log.{LeftSince, Log, count_until, folder_of}
-use Rattle.sw_memdisk.specs.Memory.{LeftBy, MemDiskModel, log_at, seen_of}
+use Rattle.sw_memdisk.specs.Memory.{Kept, LeftBy, MemDiskModel, bytes_in, folder_at, log_at, seen_of, used_by}
 
 -- ---- the record of a folder
 
@@ -73,3 +75,19 @@ earlier disk since later name image le left = record {
       (past_or_there later disk.calls);
   now = λ there. left.now (omega (arith, le, there));
 }
+
+-- the bytes of a folder are among those of all
+used_more : (kept : Kept) (folders : List Kept) → used_by (kept ∷ folders) ≡ bytes_in kept.folder + used_by folders
+used_more kept folders = sum_by-cons (λ (k : Kept). bytes_in k.folder) kept folders
+
+size_within : (folders : List Kept) (name : List ℕ) → bytes_in (folder_at folders name) ≤ used_by folders
+size_within [] name = omega arith
+size_within (kept ∷ folders) name =
+    let rest = size_within folders name in
+    elim (same_name kept.name name) as (λ b. bytes_in (cond b kept.folder (folder_at folders name)) ≤ used_by (kept ∷ folders)) [
+      | true ↦ omega (arith, used_more kept folders)
+      | false ↦ omega (arith, used_more kept folders, rest)
+    ]
+
+pub within : (disk : MemDiskModel) (name : List ℕ) → size_of (folder_of (log_at disk.folders name)) ≤ used_by disk.folders
+within disk name = size_within disk.folders name

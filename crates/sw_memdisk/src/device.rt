@@ -10,7 +10,7 @@ use sw_disk::{Disk, DiskRefusal};
 use sw_types::{Bytes, NoMemory};
 
 impl Disk for MemDisk {
-    ghost use Rattle.sw_memdisk.specs.Laws.{earlier, now, only_now, telling};
+    ghost use Rattle.sw_memdisk.specs.Laws.{earlier, now, only_now, telling, within};
     ghost use Rattle.sw_memdisk.specs.Memory.{LeftBy, seen_of};
 
     ghost seen = { seen_of };
@@ -86,6 +86,8 @@ impl Disk for MemDisk {
     }
 
     ghost telling = { telling };
+
+    ghost within = { within };
 
     ghost now = { now };
 

@@ -1,13 +1,14 @@
-use Rattle.std.proofs.Common.{◌≡◌, ℕ, [], ◌∷◌, List, Option, None, Err, IsErrOf, length, subst, sym, ap, ◌∙◌}
+use Rattle.std.proofs.Common.{◌≡◌, ◌≤◌, ℕ, [], ◌∷◌, List, Option, None, Some, Result, Err, IsErrOf, length, subst, sym, ap, ◌∙◌, arith}
 use Rattle.std.proofs.lemmas.Result.{err_from_is_err_and}
 use Rattle.sw_disk.specs.Answers.{IsFull}
 use Rattle.sw_disk.specs.Calls.{PublishTmp, SyncDir, SyncTmp, WriteTmp}
 use Rattle.sw_disk.specs.Folder.{File, content_at, files_of}
 use Rattle.sw_disk.specs.Runs.{IfTold, Runs, refusal_of}
-use Rattle.sw_disk.specs.State.{State}
+use Rattle.sw_disk.specs.State.{State, free_of}
+use Rattle.sw_disk.specs.declared.refusal.DiskRefusal.{DiskRefusal}
 use Rattle.sw_disk.specs.declared.refusal.DiskRefusal.TheVariants.{Full, NoMemory}
 use Rattle.sw_hashpath.specs.FileName.{file_name_text}
-use Rattle.sw_disk.proofs.Chains.{runs_after, runs_more, runs_stop}
+use Rattle.sw_disk.proofs.Chains.{runs_after, runs_more, runs_stop, told_map}
 use Rattle.sw_diskfile.specs.Calls.{store_calls}
 use Rattle.sw_diskfile.proofs.Begun.{refused_early, unbegun}
 use Rattle.sw_diskfile.proofs.FileTexts.{short_text}
@@ -72,3 +73,39 @@ returns-clause-runs g c =
     let published = subst (λ (text : List ℕ). Runs g.D.Disk.seen g.D.Disk.left_since (rest text) (refusal_of c.publish_synced.result) c.write_tmp.new.self c.publish_synced.new.disk) name c.publish_synced.ensures.runs in
     runs_after g.D.Disk.seen g.D.Disk.left_since (store_calls folder (file_name_text c.args.name.now) c.args.bytes.now) (refusal_of c.publish_synced.result) c.args.disk.now c.ready.new.self c.publish_synced.new.disk c.in_ok-ready.ensures.untouched
     (runs_more g.D.Disk.seen g.D.Disk.left_since (WriteTmp c.args.bytes.now ∷ []) (rest (file_name_text c.args.name.now)) (refusal_of c.publish_synced.result) _ _ _ c.in_ok-write_tmp.ensures.runs published)
+
+-- what holds in any state, where the disk tells its own
+in_any : (told : Option State) (P : State → Type 0) → ((state : State) → P state) → IfTold told P
+in_any None P holds = tt
+in_any (Some state) P holds = holds state
+
+-- the reason of a refusal that was passed on
+one_reason : (result : Result (Unit {0}) DiskRefusal) (refusal cause reason : DiskRefusal) → result ≡ Err refusal → refusal ≡ cause → refusal_of result ≡ Some reason → reason ≡ cause
+one_reason result refusal cause reason is_err is_cause is =
+    let same : Some refusal ≡ Some reason = sym (ap refusal_of is_err) ∙ is in
+    let one : refusal ≡ reason = cc in
+    sym one ∙ is_cause
+
+pub returns-in_err-text-clause-overfull : goal.returns-in_err-text-clause-overfull
+returns-in_err-text-clause-overfull g c = λ reason is.
+    let p = err_from_is_err_and c.from_residual.result c.from_residual.ensures.1 in
+    let memory : reason ≡ NoMemory = one_reason _ _ _ reason p.1 p.2 is in
+    in_any (g.D.Disk.seen c.args.disk.now).told _ (λ state less. unbegun g.D.Disk.seen g.D.Disk.left_since (WriteTmp c.args.bytes.now) [] reason c.args.disk.now (λ failed. cc))
+
+pub returns-in_err-ready-clause-overfull : goal.returns-in_err-ready-clause-overfull
+returns-in_err-ready-clause-overfull g c = λ reason is.
+    let p = err_from_is_err_and c.from_residual-in_err-ready.result c.from_residual-in_err-ready.ensures.1 in
+    let memory : reason ≡ NoMemory = one_reason _ _ _ reason p.1 p.2 is ∙ c.in_err-ready.ensures.cause in
+    in_any (g.D.Disk.seen c.args.disk.now).told _ (λ state less. refused_early g.D.Disk.seen g.D.Disk.left_since (WriteTmp c.args.bytes.now) [] reason c.ready.new.self (λ failed. cc) c.args.disk.now c.in_err-ready.ensures.untouched)
+
+pub returns-in_err-write_tmp-clause-overfull : goal.returns-in_err-write_tmp-clause-overfull
+returns-in_err-write_tmp-clause-overfull g c = λ reason is.
+    let p = err_from_is_err_and c.from_residual-in_err-write_tmp.result c.from_residual-in_err-write_tmp.ensures.1 in
+    let same = one_reason _ _ _ reason p.1 p.2 is in
+    in_any (g.D.Disk.seen c.args.disk.now).told _ (λ state less. rw same
+    (runs_after g.D.Disk.seen g.D.Disk.left_since (WriteTmp c.args.bytes.now ∷ []) _ _ _ _ c.in_ok-ready.ensures.untouched c.in_err-write_tmp.ensures.runs))
+
+pub returns-clause-overfull : goal.returns-clause-overfull
+returns-clause-overfull g c = λ reason is.
+    let fits = subst (λ (o : Option State). IfTold o (λ s. length c.args.bytes.now ≤ free_of s)) c.in_ok-ready.ensures.untouched.told c.in_ok-write_tmp.ensures.fits in
+    told_map (g.D.Disk.seen c.args.disk.now).told (λ s. length c.args.bytes.now ≤ free_of s) _ fits (λ s enough less. absurd (omega (arith, enough, less)))
