@@ -101,7 +101,8 @@ impl Cluster {
 
     /// There are 2^part_power partitions, at most 2^16.
     pub fn part_power(&self) -> u32
-        ensures { result ≡ self.now.part_power }
+        ensures power { result ≡ self.now.part_power }
+        ensures rules { KeepsRules self.now }
     {
         self.part_power
     }
