@@ -1,0 +1,80 @@
+-- Bytes are the archive that was asked for, or they have one spoil, and not both.
+use Rattle.std.proofs.Common.{◌≡◌, ℕ, List, refl, ap, subst}
+use Rattle.sw_types.specs.Name.{NameModel}
+use Rattle.sw_types.specs.Policy.{PolicyModel}
+use Rattle.sw_hashpath.specs.Place.{PlaceModel}
+use Rattle.sw_archive.specs.Archive.{ArchiveModel, IsArchive}
+use Rattle.sw_archive.specs.Fault.{IsFault}
+use Rattle.sw_archive.specs.declared.fault.ArchiveFault.{ArchiveFault}
+use Rattle.sw_archive.proofs.Archives.{one_archive}
+use Rattle.sw_ring.specs.Cluster.{ClusterModel}
+use Rattle.sw_message.specs.Spoil.{Differs, IsArchiveOf, IsAsked, IsOfPlace, IsSpoil}
+use Rattle.sw_message.specs.declared.spoil.Foreign.{Foreign as AForeign}
+use Rattle.sw_message.specs.declared.spoil.Foreign.TheVariants.{Name, Stamp, Index, Code, Object}
+use Rattle.sw_message.specs.declared.spoil.Spoil.{Spoil}
+use Rattle.sw_message.specs.declared.spoil.Spoil.TheVariants.{Fault, Foreign}
+
+-- ---- another archive differs in one thing first
+
+module _ (Named : NameModel → Type 0) (policy : PolicyModel) (stamp index : ℕ) (archive : ArchiveModel) where
+  abbrev Other : AForeign → Type 0
+  Other foreign = Differs Named policy stamp index archive foreign
+
+  asked_alike : (foreign : AForeign) → IsAsked Named policy stamp index archive → Other foreign → ⊥
+  asked_alike Name asked differs = differs asked.name
+  asked_alike Stamp asked differs = differs.1 asked.stamp_is
+  asked_alike Index asked differs = differs.2 asked.index_is
+  asked_alike Code asked differs = differs.3 asked.code
+  asked_alike Object asked differs = differs
+
+  one_difference : (a b : AForeign) → Other a → Other b → a ≡ b
+  one_difference Name Name x y = refl
+  one_difference Name Stamp x y = absurd (x y.0)
+  one_difference Name Index x y = absurd (x y.0)
+  one_difference Name Code x y = absurd (x y.0)
+  one_difference Stamp Name x y = absurd (y x.0)
+  one_difference Stamp Stamp x y = refl
+  one_difference Stamp Index x y = absurd (x.1 y.1)
+  one_difference Stamp Code x y = absurd (x.1 y.1)
+  one_difference Index Name x y = absurd (y x.0)
+  one_difference Index Stamp x y = absurd (y.1 x.1)
+  one_difference Index Index x y = refl
+  one_difference Index Code x y = absurd (x.2 y.2)
+  one_difference Code Name x y = absurd (y x.0)
+  one_difference Code Stamp x y = absurd (y.1 x.1)
+  one_difference Code Index x y = absurd (y.2 x.2)
+  one_difference Code Code x y = refl
+  one_difference Object b x y = absurd x
+  one_difference a Object x y = absurd y
+
+module _ (cluster : ClusterModel) (place : PlaceModel) (stamp index : ℕ) (bytes : List ℕ) where
+  pub asked_or_foreign : (foreign : AForeign) → IsArchiveOf cluster place stamp index bytes → IsSpoil cluster place stamp index bytes (Foreign foreign) → ⊥
+  asked_or_foreign foreign is other =
+      asked_alike (IsOfPlace cluster place) cluster.policy stamp index other.0 foreign
+      (subst (IsAsked (IsOfPlace cluster place) cluster.policy stamp index) (one_archive bytes is.archive other.0 is.spelled other.1) is.asked) other.2
+
+  one_foreign : (a b : AForeign) → IsSpoil cluster place stamp index bytes (Foreign a) → IsSpoil cluster place stamp index bytes (Foreign b) → a ≡ b
+  one_foreign a b x y =
+      one_difference (IsOfPlace cluster place) cluster.policy stamp index y.0 a b
+      (subst (λ (archive : ArchiveModel). Differs (IsOfPlace cluster place) cluster.policy stamp index archive a) (one_archive bytes x.0 y.0 x.1 y.1) x.2) y.2
+
+-- ---- spoils
+
+-- what the law of faults says
+pub record FaultLaw : Type 0 where
+  pub not_both : (bytes : List ℕ) (archive : ArchiveModel) (fault : ArchiveFault) → IsArchive bytes archive → IsFault bytes fault → ⊥
+  pub one : (bytes : List ℕ) (first second : ArchiveFault) → IsFault bytes first → IsFault bytes second → first ≡ second
+
+module _ (law : FaultLaw) (cluster : ClusterModel) (place : PlaceModel) (stamp index : ℕ) (bytes : List ℕ) where
+  abbrev Spoils : Spoil → Type 0
+  Spoils spoil = IsSpoil cluster place stamp index bytes spoil
+
+  pub asked_or_spoiled : (spoil : Spoil) → IsArchiveOf cluster place stamp index bytes → Spoils spoil → ⊥
+  asked_or_spoiled (Fault fault) is spoils = law.not_both bytes is.archive fault is.spelled spoils
+  asked_or_spoiled (Foreign foreign) is spoils = asked_or_foreign cluster place stamp index bytes foreign is spoils
+
+  pub one_spoil : (a b : Spoil) → Spoils a → Spoils b → a ≡ b
+  one_spoil (Fault a) (Fault b) x y = ap (λ f. Fault f) (law.one bytes a b x y)
+  one_spoil (Fault a) (Foreign b) x y = absurd (law.not_both bytes y.0 a y.1 x)
+  one_spoil (Foreign a) (Fault b) x y = absurd (law.not_both bytes x.0 b x.1 y)
+  one_spoil (Foreign a) (Foreign b) x y = ap (λ f. Foreign f) (one_foreign cluster place stamp index bytes a b x y)

@@ -1,0 +1,5 @@
+pub mod Message
+pub mod Spoil
+pub mod Step
+pub mod Survey
+pub mod Table
