@@ -41,6 +41,15 @@ pub(crate) fn put(floors: &mut Floors, key: Key, floor: Option<Floor>) -> Result
     Ok(())
 }
 
+/// The floor of a key's place, if it has one.
+pub(crate) fn floor_of(floors: &Floors, key: &Key) -> Option<Floor>
+    requires sound { AreSound floors.now.entries }
+    requires key { IsKey key.now }
+    ensures { result ≡ floor_at (key_place key.now) (floors_of floors.now.entries) }
+{
+    floors.get(key).copied()
+}
+
 /// The first suffix from this one on in which a place of the partition has a floor.
 pub(crate) fn next_suffix(floors: &Floors, part: u32, from: u16) -> Option<u16>
     requires { AreSound floors.now.entries }

@@ -5,7 +5,7 @@ ghost use Rattle.std.specs.Prelude.{◌≡◌, ◌≢◌, ◌⊎◌, ◌≤◌, 
 ghost use Rattle.sw_hashpath.specs.Place.{IsPlace};
 ghost use Rattle.sw_suffix.specs.Table.{AreHashes, IsBefore, IsSet, floor_at};
 
-use crate::floors::{Floors, put};
+use crate::floors::{Floors, floor_of, put};
 use crate::hashes::{Kept, hashes_of};
 use crate::key::Key;
 use std::alloc::Global;
@@ -56,6 +56,13 @@ impl SuffixTable {
         ensures { result ≡ self.now.power }
     {
         self.power
+    }
+
+    /// The floor of a place, if it has one. It takes no memory.
+    pub fn floor(&self, place: &Place) -> Option<Floor>
+        ensures { result ≡ floor_at place.now self.now.floors }
+    {
+        floor_of(&self.floors, &Key::of(place))
     }
 
     /// Gives a place this floor, or none. The hash of its suffix, and no other, is forgotten. Memory is taken only for a

@@ -1,0 +1,228 @@
+-- What a mounted node is after it handled a message.
+use Rattle.std.proofs.Common.{◌≡◌, ◌≢◌, inl, inr, ℕ, ◌≤◌, Bool, true, false, List, IfOk, OnErr, OnOk, Option, Some, None, Result, Ok, Err, refl, sym, subst, ◌∙◌, []}
+use Rattle.std.specs.Prelude.{⊤}
+use Rattle.sw_disk.specs.Calls.{Call, ListFolders}
+use Rattle.sw_disk.specs.Folder.{Content, File, IsImage, files_of}
+use Rattle.sw_disk.specs.Runs.{IfTold, IsTelling, LeavesOnly, Past, Seen, refusal_of}
+use Rattle.sw_disk.specs.State.{State, free_of}
+use Rattle.sw_disk.specs.declared.refusal.DiskRefusal.{DiskRefusal}
+use Rattle.sw_disk.specs.declared.refusal.DiskRefusal.TheVariants as refusal
+use Rattle.sw_disk.proofs.Chains.{told_map}
+use Rattle.sw_hashpath.specs.Place.{PlaceModel, folder_of}
+use Rattle.sw_hashdir.specs.declared.floor.Floor.{Floor}
+use Rattle.sw_diskfile.specs.Changes.{AreSynced, IsAsBefore, Keeps}
+use Rattle.sw_diskfile.proofs.Outcomes.{keeps_refused, keeps_run}
+use Rattle.sw_suffix.specs.Table.{floor_at}
+use Rattle.sw_ring.specs.Cluster.{ClusterModel}
+use Rattle.sw_message.specs.Message.{IsMember, IsPlaceOf, is_primary, place_in}
+use Rattle.sw_message.specs.Step.{IsNodeStep, IsStepAt}
+use Rattle.sw_diskfile.proofs.Steps.{changes_by}
+use Rattle.sw_message.specs.Survey.{survey_calls}
+use Rattle.sw_message.specs.Table.{IsHandled}
+use Rattle.sw_message.specs.declared.message.Msg.{Msg}
+use Rattle.sw_message.specs.declared.reply.Reply.{Reply}
+use Rattle.sw_objsrv.specs.Folder.{AreInOrder, HaveSameFloors, IsInOrder}
+use Rattle.sw_objsrv.specs.Handling.{AreListed, HandlesAt, HandlesSurvey, IsAnswered, IsBeforeOrAfter, IsStamped, StopsAt, Surveys, folders_of, reply_of}
+use Rattle.sw_objsrv.specs.Node.{Handled, IfBothStates, IfSynced, IsByTable, IsNode, IsRefusal, NodeModel}
+use Rattle.sw_objsrv.proofs.Ended.{Ended, failed_counts, fails_fault, fault_fails, has_failed, other_quiet, placed_ended, stopped_ended, survey_ended}
+use Rattle.sw_objsrv.proofs.InOrder.{orders_kept}
+use Rattle.sw_objsrv.proofs.Placed.{Leaves, kept_leaves, kept_these, leaves, placed_keeps, placed_step}
+use Rattle.sw_objsrv.proofs.StoppedReads.{stops_reading}
+use Rattle.sw_objsrv.proofs.SurveyStep.{survey_quiet, survey_step}
+use Rattle.sw_objsrv.proofs.BothTold.{both_each, both_follow, told_both}
+
+-- the folders that are not that of the message's place
+abbrev pub IsElsewhere : Msg → List ℕ → Type 0
+IsElsewhere message name = (place : PlaceModel) → place_in message ≡ Some place → name ≢ folder_of place
+
+module _ {D : Type 0} (seen : D → Seen) (left_since : D → Past) (cluster : ClusterModel) (device : ℕ) (floors : List (PlaceModel × Floor)) (message : Msg) (a b : D)
+    (now : (name : List ℕ) (image : List File) → IfTold (seen a).told (λ s. IsImage (s.folder name) image → left_since a (seen a).moment name image))
+    (only : (name : List ℕ) (image : List File) → left_since a (seen a).moment name image → IfTold (seen a).told (λ s. IsImage (s.folder name) image))
+    (earlier : (since later : ℕ) (name : List ℕ) (image : List File) → since ≤ later → left_since a later name image → left_since a since name image)
+    (orders : IfTold (seen a).told (AreInOrder cluster device floors)) where
+  abbrev IsUnmade : Result Reply DiskRefusal → Type 0
+  IsUnmade result = (reason : DiskRefusal) → refusal_of result ≡ Some reason → reason ≢ refusal.Failed → Keeps seen left_since (λ _. ⊤) a b
+
+  abbrev Decided : PlaceModel → State → List File → Type 0
+  Decided place before files = IsBeforeOrAfter cluster device (free_of before) message place (folders_of before) files
+
+  -- what is known of the disk once a message was handled
+  pub record Answers (result : Result Reply DiskRefusal) : Type 0 where
+    pub ended : Ended (seen a) (seen b) result
+    pub step : IsByTable (reply_of result) → IfBothStates (seen a) (seen b) (λ before after. IsNodeStep cluster device (free_of before) message (folders_of before) (folders_of after) (reply_of result))
+    pub kept : IsRefusal (reply_of result) → Keeps seen left_since (λ _. ⊤) a b
+    pub undecided : (place : PlaceModel) → place_in message ≡ Some place → IfBothStates (seen a) (seen b) (λ before after. Decided place before (files_of (after.folder (folder_of place))))
+    pub crash : (place : PlaceModel) → place_in message ≡ Some place → IfSynced (seen a) (folder_of place) (λ before. LeavesOnly left_since b (seen a).moment (folder_of place) (Decided place before))
+    pub synced : (place : PlaceModel) → place_in message ≡ Some place → IfBothStates (seen a) (seen b) (λ before after. AreSynced (files_of (before.folder (folder_of place))) → AreSynced (files_of (after.folder (folder_of place))))
+    pub others : Keeps seen left_since (IsElsewhere message) a b
+
+  -- ---- about a place
+
+  one_about : (place other : PlaceModel) → place_in message ≡ Some place → place_in message ≡ Some other → place ≡ other
+  one_about place other is also = cc
+
+  here : (place : PlaceModel) → IsPlaceOf cluster (Some place) → IfTold (seen a).told (λ state. IsInOrder (is_primary cluster device place) (floor_at place floors) (state.folder (folder_of place)))
+  here place is_place = told_map (seen a).told (AreInOrder cluster device floors) (λ state. IsInOrder (is_primary cluster device place) (floor_at place floors) (state.folder (folder_of place))) orders (λ state all. all place is_place)
+
+  place_answers : (place : PlaceModel) (about : place_in message ≡ Some place) (result : Result Reply DiskRefusal) → Ended (seen a) (seen b) result
+      → (IsByTable (reply_of result) → IfBothStates (seen a) (seen b) (λ before after. IsNodeStep cluster device (free_of before) message (folders_of before) (folders_of after) (reply_of result)))
+      → (IsRefusal (reply_of result) → Keeps seen left_since (λ _. ⊤) a b) → Leaves cluster device message place about seen left_since a b → Answers result
+  place_answers place about result ended step kept left = record {
+    ended = ended;
+    step = step;
+    kept = kept;
+    undecided = λ other is. subst (λ (p : PlaceModel). IfBothStates (seen a) (seen b) (λ before after. Decided p before (files_of (after.folder (folder_of p))))) (one_about place other about is) left.undecided;
+    crash = λ other is. subst (λ (p : PlaceModel). IfSynced (seen a) (folder_of p) (λ before. LeavesOnly left_since b (seen a).moment (folder_of p) (Decided p before))) (one_about place other about is) left.crash;
+    synced = λ other is. subst (λ (p : PlaceModel). IfBothStates (seen a) (seen b) (λ before after. AreSynced (files_of (before.folder (folder_of p))) → AreSynced (files_of (after.folder (folder_of p))))) (one_about place other about is) left.synced;
+    others = record { stands = λ name elsewhere. left.others.stands name (elsewhere place about); leaves = λ some name elsewhere. left.others.leaves some name (elsewhere place about) };
+  }
+
+  -- a read that was stopped changes nothing
+  stopped_keeps : (calls : List Call) → ((name : List ℕ) (temporary : Option Content) → changes_by name calls temporary ≡ []) → (result : Result Reply DiskRefusal) → StopsAt seen left_since calls result a b → IsUnmade result → Keeps seen left_since (λ _. ⊤) a b
+  stopped_keeps calls quiet (Ok reply) stopped unmade = absurd stopped
+  stopped_keeps calls quiet (Err refusal.Failed) stopped unmade = keeps_run seen left_since (λ _. ⊤) calls (λ name _. quiet name) a b now earlier (Some refusal.Failed) stopped
+  stopped_keeps calls quiet (Err (refusal.Full need free)) stopped unmade = absurd stopped
+  stopped_keeps calls quiet (Err refusal.NoMemory) stopped unmade = unmade refusal.NoMemory refl (λ is. cc)
+
+  no_table : (calls : List Call) (result : Result Reply DiskRefusal) → StopsAt seen left_since calls result a b → IsByTable (reply_of result) → ⊥
+  no_table calls (Ok reply) stopped by_table = stopped
+  no_table calls (Err refusal.Failed) stopped by_table = by_table.0 refl
+  no_table calls (Err (refusal.Full need free)) stopped by_table = stopped
+  no_table calls (Err refusal.NoMemory) stopped by_table = by_table.1 refl
+
+  placed : (place : PlaceModel) → place_in message ≡ Some place → IsPlaceOf cluster (Some place) → IsStamped message → (result : Result Reply DiskRefusal) → HandlesAt seen left_since cluster device floors message (Some place) result a b
+      → IsUnmade result → Answers result
+  placed place about is_place stamped result (inl handles) unmade = place_answers place about result
+      (placed_ended seen left_since a b (folder_of place) (λ found. IsHandled cluster device found message) result handles)
+      (placed_step cluster device message place about seen left_since a b (floor_at place floors) stamped now only earlier (here place is_place) result handles unmade)
+      (placed_keeps cluster device message place about seen left_since a b (floor_at place floors) stamped now only earlier (here place is_place) result handles unmade)
+      (leaves cluster device message place about seen left_since a b (floor_at place floors) stamped now only earlier (here place is_place) result handles unmade)
+  placed place about is_place stamped result (inr read) unmade =
+      let stopped = stops_reading seen left_since a b message result read in
+      let kept = stopped_keeps stopped.0 stopped.1 result stopped.2 unmade in
+      place_answers place about result (stopped_ended seen left_since a b stopped.0 result stopped.2) (λ by_table. absurd (no_table stopped.0 result stopped.2 by_table)) (λ refusal. kept)
+      (kept_leaves cluster device message place about seen left_since a b (floor_at place floors) stamped now only earlier (here place is_place) kept)
+
+  -- ---- about no place
+
+  survey_keeps : (result : Result Reply DiskRefusal) → HandlesSurvey seen left_since cluster.part_power floors message result a b → IsUnmade result → Keeps seen left_since (λ _. ⊤) a b
+  survey_keeps (Ok reply) surveys unmade = keeps_run seen left_since (λ _. ⊤) (survey_calls message) (λ name _ temporary. survey_quiet message name temporary) a b now earlier None surveys.runs
+  survey_keeps (Err refusal.Failed) (inl early) unmade = keeps_refused seen left_since a b now earlier ListFolders refusal.Failed early
+  survey_keeps (Err refusal.Failed) (inr want) unmade = absurd (let is = want.0 in cc)
+  survey_keeps (Err (refusal.Full need free)) handles unmade = unmade (refusal.Full need free) refl (λ is. cc)
+  survey_keeps (Err refusal.NoMemory) handles unmade = unmade refusal.NoMemory refl (λ is. cc)
+
+  abbrev Stepped : Reply → State → State → Type 0
+  Stepped reply before after = IsNodeStep cluster device (free_of before) message (folders_of before) (folders_of after) reply
+
+  told_step : (reply : Reply) → place_in message ≡ None → Surveys seen left_since cluster.part_power floors message reply a b → Keeps seen left_since (λ _. ⊤) a b → IfBothStates (seen a) (seen b) (Stepped reply)
+  told_step reply about surveys kept =
+      let busy = AreListed message surveys.listed in
+      let same = λ (before after : State). (name : List ℕ) → IsAsBefore (before.folder name) (after.folder name) in
+      both_follow (seen a).told (seen b).told (λ state. AreInOrder cluster device floors state × busy state) same (Stepped reply)
+      (λ before after has same. subst (λ (at : Option PlaceModel). IsStepAt cluster device (free_of before) message at (folders_of before) (folders_of after) reply) (sym about)
+      (survey_step cluster device floors message reply before after surveys.listed has.0 has.1 surveys.surveyed same))
+      (told_both (seen a).told (AreInOrder cluster device floors) busy orders surveys.are_listed)
+      (both_each (seen a).told (seen b).told (λ (name : List ℕ) before after. IsAsBefore (before.folder name) (after.folder name)) (λ name. kept.stands name tt))
+
+  surveyed_step : place_in message ≡ None → (result : Result Reply DiskRefusal) → HandlesSurvey seen left_since cluster.part_power floors message result a b → IsUnmade result → IsByTable (reply_of result)
+      → IfBothStates (seen a) (seen b) (Stepped (reply_of result))
+  surveyed_step about (Ok reply) surveys unmade by_table = told_step reply about surveys (survey_keeps (Ok reply) surveys unmade)
+  surveyed_step about (Err refusal.Failed) handles unmade by_table = absurd (by_table.0 refl)
+  surveyed_step about (Err (refusal.Full need free)) (inl early) unmade by_table = absurd early
+  surveyed_step about (Err (refusal.Full need free)) (inr want) unmade by_table = absurd (let is = want.0 in cc)
+  surveyed_step about (Err refusal.NoMemory) handles unmade by_table = absurd (by_table.1 refl)
+
+  not_about : (place : PlaceModel) → place_in message ≡ None → place_in message ≡ Some place → ⊥
+  not_about place none some = cc
+
+  surveyed : place_in message ≡ None → (result : Result Reply DiskRefusal) → HandlesSurvey seen left_since cluster.part_power floors message result a b → IsUnmade result → Answers result
+  surveyed about result handles unmade =
+      let kept = survey_keeps result handles unmade in
+      record {
+        ended = survey_ended seen left_since a b cluster.part_power floors message result handles;
+        step = surveyed_step about result handles unmade;
+        kept = λ refusal. kept;
+        undecided = λ place is. absurd (not_about place about is);
+        crash = λ place is. absurd (not_about place about is);
+        synced = λ place is. absurd (not_about place about is);
+        others = kept_these seen left_since (IsElsewhere message) a b kept;
+      }
+
+  -- ---- about either
+
+  answers_at : (about : Option PlaceModel) → place_in message ≡ about → IsPlaceOf cluster about → IsStamped message → (result : Result Reply DiskRefusal) → HandlesAt seen left_since cluster device floors message about result a b
+      → IsUnmade result → Answers result
+  answers_at None about is_place stamped result handles unmade = surveyed about result handles unmade
+  answers_at (Some place) about is_place stamped result handles unmade = placed place about is_place stamped result handles unmade
+
+  pub answers : IsPlaceOf cluster (place_in message) → IsStamped message → (result : Result Reply DiskRefusal) → IsAnswered seen left_since cluster device floors message result a b → IsUnmade result → Answers result
+  answers is_place stamped result handles unmade = answers_at (place_in message) refl is_place stamped result handles unmade
+
+-- ---- the node
+
+module _ {D : Type 0} (seen : D → Seen) (left_since : D → Past) (cluster : ClusterModel) (message : Msg) (old new : NodeModel D) (result : Result Reply DiskRefusal)
+    (now : (name : List ℕ) (image : List File) → IfTold (seen old.disk).told (λ s. IsImage (s.folder name) image → left_since old.disk (seen old.disk).moment name image))
+    (only : (name : List ℕ) (image : List File) → left_since old.disk (seen old.disk).moment name image → IfTold (seen old.disk).told (λ s. IsImage (s.folder name) image))
+    (earlier : (since later : ℕ) (name : List ℕ) (image : List File) → since ≤ later → left_since old.disk later name image → left_since old.disk since name image)
+    (node : IsNode cluster seen old) (mounted : old.is_due ≡ false)
+    (unmade : (reason : DiskRefusal) → refusal_of result ≡ Some reason → reason ≢ refusal.Failed → Keeps seen left_since (λ _. ⊤) old.disk new.disk)
+    (refused : OnErr result (HaveSameFloors new.floors old.floors)) (device : new.device ≡ old.device) (due : new.is_due ≡ has_failed result) where
+  pub handled : IsPlaceOf cluster (place_in message) → IsStamped message → IsAnswered seen left_since cluster old.device old.floors message result old.disk new.disk
+      → IfOk result (λ reply. IsRefusal reply → HaveSameFloors new.floors old.floors) → Handled seen left_since cluster message (reply_of result) old new
+  handled is_place stamped answered same =
+      let all = answers seen left_since cluster old.device old.floors message old.disk new.disk now only earlier (node.in_order mounted) is_place stamped result answered unmade in
+      record {
+        answered = (result, refl, answered);
+        step = all.step;
+        kept = λ refusal. (all.kept refusal, same_floors result refused same refusal);
+        undecided = all.undecided;
+        crash = all.crash;
+        synced = all.synced;
+        others = all.others;
+        is_due = λ is. fails_fault result (sym due ∙ is);
+        due = λ fault. due ∙ fault_fails (seen old.disk) (seen new.disk) result all.ended fault;
+        failed = failed_counts (seen old.disk) (seen new.disk) result all.ended;
+        quiet = other_quiet (seen old.disk) (seen new.disk) result all.ended;
+        device = device;
+      }
+    where
+      same_floors : (ended : Result Reply DiskRefusal) → OnErr ended (HaveSameFloors new.floors old.floors) → IfOk ended (λ reply. IsRefusal reply → HaveSameFloors new.floors old.floors) → IsRefusal (reply_of ended)
+          → HaveSameFloors new.floors old.floors
+      same_floors (Ok reply) err ok refusal = ok refusal
+      same_floors (Err reason) err ok refusal = err
+
+  -- ---- it stays a node
+
+  -- what a disk that tells held is as before
+  kept_orders : (tells : Bool) (a b : Option State) → IsTelling tells a → IsTelling tells b → IfTold a (AreInOrder cluster old.device old.floors) → IfTold a (λ before. IfTold b (λ after. (name : List ℕ) → IsAsBefore (before.folder name) (after.folder name)))
+      → HaveSameFloors new.floors old.floors → IfTold b (AreInOrder cluster old.device new.floors)
+  kept_orders true None b first second orders kept same = absurd (cc)
+  kept_orders true (Some before) None first second orders kept same = absurd (cc)
+  kept_orders true (Some before) (Some after) first second orders kept same = orders_kept cluster old.device old.floors new.floors before after same kept orders
+  kept_orders false a None first second orders kept same = tt
+  kept_orders false a (Some after) first second orders kept same = absurd (cc)
+
+  other_orders : (tells : Bool) → IsTelling tells (seen old.disk).told → IsTelling tells (seen new.disk).told → Keeps seen left_since (λ _. ⊤) old.disk new.disk → HaveSameFloors new.floors old.floors
+      → IfTold (seen new.disk).told (AreInOrder cluster old.device new.floors)
+  other_orders tells first second kept same =
+      kept_orders tells (seen old.disk).told (seen new.disk).told first second (node.in_order mounted)
+      (both_each (seen old.disk).told (seen new.disk).told (λ (name : List ℕ) before after. IsAsBefore (before.folder name) (after.folder name)) (λ name. kept.stands name tt)) same
+
+  ended_orders : (tells : Bool) → IsTelling tells (seen old.disk).told → IsTelling tells (seen new.disk).told → (ended : Result Reply DiskRefusal) → has_failed ended ≡ false
+      → ((reason : DiskRefusal) → refusal_of ended ≡ Some reason → reason ≢ refusal.Failed → Keeps seen left_since (λ _. ⊤) old.disk new.disk) → OnErr ended (HaveSameFloors new.floors old.floors)
+      → OnOk ended (IfTold (seen old.disk).told (AreInOrder cluster old.device old.floors) → IfTold (seen new.disk).told (AreInOrder cluster old.device new.floors))
+      → IfTold (seen new.disk).told (AreInOrder cluster old.device new.floors)
+  ended_orders tells first second (Ok reply) none kept same orders = orders (node.in_order mounted)
+  ended_orders tells first second (Err refusal.Failed) none kept same orders = absurd (cc)
+  ended_orders tells first second (Err (refusal.Full need free)) none kept same orders = other_orders tells first second (kept (refusal.Full need free) refl (λ is. cc)) same
+  ended_orders tells first second (Err refusal.NoMemory) none kept same orders = other_orders tells first second (kept refusal.NoMemory refl (λ is. cc)) same
+
+  pub still_node : (tells : Bool) → IsTelling tells (seen old.disk).told → IsTelling tells (seen new.disk).told → new.power ≡ old.power
+      → OnOk result (IfTold (seen old.disk).told (AreInOrder cluster old.device old.floors) → IfTold (seen new.disk).told (AreInOrder cluster old.device new.floors)) → IsNode cluster seen new
+  still_node tells first second power orders = record {
+    rules = node.rules;
+    power_is = power ∙ node.power_is;
+    member = subst (IsMember cluster) (sym device) node.member;
+    in_order = λ none. subst (λ (d : ℕ). IfTold (seen new.disk).told (AreInOrder cluster d new.floors)) (sym device) (ended_orders tells first second result (sym due ∙ none) unmade refused orders);
+  }

@@ -1,0 +1,248 @@
+-- The device calls of the rows of a node's table, and which changes of names they make.
+use Rattle.std.proofs.Common.{◌≡◌, ◌≢◌, ◌⊎◌, inl, inr, ⊎_elim, ℕ, ◌<◌, Bool, List, [], ◌∷◌, ◌++◌, length, map, take, Option, Some, refl, sym, ◌∙◌, ap, subst, append_assoc}
+use Rattle.std.proofs.lemmas.List.{append-nil}
+use Rattle.sw_disk.specs.Calls.{Call, ListNames, ReadFile, RemoveFile, SyncDir}
+use Rattle.sw_disk.specs.Folder.{Change, Content, Remove, Rename}
+use Rattle.sw_hashpath.specs.FileName.{file_name_text}
+use Rattle.sw_hashpath.specs.Place.{PlaceModel, folder_of}
+use Rattle.sw_hashpath.specs.declared.file_name.FileName.TheVariants.{Data}
+use Rattle.sw_diskfile.specs.Calls.{commit_calls, drop_calls, purge_calls, store_calls}
+use Rattle.sw_diskfile.specs.Changes.{new_file}
+use Rattle.sw_diskfile.proofs.CallLists.{commit_alone, drop_alone, makes_commit, makes_drop, makes_purge, makes_store, purge_alone, store_alone}
+use Rattle.sw_diskfile.proofs.Changed.{Makes}
+use Rattle.sw_diskfile.proofs.Steps.{changes_by, changes_of, temporary_by}
+use Rattle.sw_diskfile.proofs.Synced.{AreSyncedChanges}
+use Rattle.sw_ring.specs.Cluster.{ClusterModel}
+use Rattle.sw_message.specs.Message.{is_primary, place_in}
+use Rattle.sw_message.specs.Table.{Found, Handling, HandlesCommit, HandlesDelete, HandlesFetch, HandlesPutFrag, HandlesRemove, IsHandled, answers_after, durable_text, plain_text, tombstone_text}
+use Rattle.sw_message.specs.declared.message.Msg.{Msg}
+use Rattle.sw_message.specs.declared.message.Msg.TheVariants as message
+use Rattle.sw_message.specs.declared.reply.Reply.{Reply}
+use Rattle.sw_message.specs.declared.reply.Reply.TheVariants.{Committed, Deleted, Fragment, Gone, Held, Kept, Missing, NoSpace, Removed, Spoiled, Superseded, Synced}
+use Rattle.sw_objsrv.specs.Handling.{IsAnswer}
+use Rattle.sw_objsrv.specs.Node.{IsRefusal}
+
+-- ---- lists of calls
+
+-- these calls make these changes of the folder, and none of another
+pub record Does (folder : List ℕ) (calls : List Call) (changes : List Change) : Type 0 where
+  pub makes : Makes folder calls changes
+  pub alone : (other : List ℕ) → other ≢ folder → (temporary : Option Content) → changes_by other calls temporary ≡ []
+
+joined : (folder : List ℕ) (xs ys : List Call) (changes : List Change) → ((temporary : Option Content) → changes_by folder ys temporary ≡ changes) → (temporary : Option Content)
+    → changes_by folder (xs ++ ys) temporary ≡ changes_by folder xs temporary ++ changes
+joined folder [] ys changes made temporary = made temporary
+joined folder (x ∷ xs) ys changes made temporary =
+    let first = changes_of folder x temporary in
+    let next = temporary_by x temporary in
+    ap (λ (more : List Change). first ++ more) (joined folder xs ys changes made next) ∙ sym (append_assoc first (changes_by folder xs next) changes)
+
+both_synced : (xs ys : List Change) → AreSyncedChanges xs → AreSyncedChanges ys → AreSyncedChanges (xs ++ ys)
+both_synced [] ys first second = second
+both_synced (x ∷ xs) ys first second = (first.0, both_synced xs ys first.1 second)
+
+module _ (folder : List ℕ) where
+  does_none : Does folder [] []
+  does_none = record { makes = record { made = λ temporary. refl; synced = tt; ends = inl refl }; alone = λ other differs temporary. refl }
+
+  does_read : (name : List ℕ) → Does folder (ReadFile folder name ∷ []) []
+  does_read name = record { makes = record { made = λ temporary. refl; synced = tt; ends = inl refl }; alone = λ other differs temporary. refl }
+
+  does_store : (name bytes : List ℕ) → Does folder (store_calls folder name bytes) (new_file name bytes ∷ [])
+  does_store name bytes = record { makes = makes_store folder name bytes; alone = λ other differs. store_alone folder other differs name bytes }
+
+  does_commit : (plain durable : List ℕ) → Does folder (commit_calls folder plain durable) (Rename plain durable ∷ [])
+  does_commit plain durable = record { makes = makes_commit folder plain durable; alone = λ other differs. commit_alone folder other differs plain durable }
+
+  does_drop : (name : List ℕ) → Does folder (drop_calls folder name) (Remove name ∷ [])
+  does_drop name = record { makes = makes_drop folder name; alone = λ other differs. drop_alone folder other differs name }
+
+  module _ (calls : List Call) (changes : List Change) (does : Does folder calls changes) where
+    -- a look comes first
+    does_look : Does folder (ListNames folder ∷ calls) changes
+    does_look = record {
+      makes = record {
+        made = does.makes.made;
+        synced = does.makes.synced;
+        ends = ⊎_elim (λ none. inl none) (λ last. inr (ListNames folder ∷ last.0, ap (λ (more : List Call). ListNames folder ∷ more) last.1)) does.makes.ends;
+      };
+      alone = does.alone;
+    }
+
+    -- a purge comes last
+    purge_ends : (names : List (List ℕ)) → (changes ++ map Remove names ≡ []) ⊎ ((front : List Call) × (calls ++ purge_calls folder names ≡ front ++ SyncDir folder ∷ []))
+    purge_ends [] = ⊎_elim (λ none. inl (append-nil changes ∙ none)) (λ last. inr (last.0, append-nil calls ∙ last.1)) does.makes.ends
+    purge_ends (name ∷ names) = inr (calls ++ map (RemoveFile folder) (name ∷ names), sym (append_assoc calls (map (RemoveFile folder) (name ∷ names)) (SyncDir folder ∷ [])))
+
+    does_purge : (names : List (List ℕ)) → Does folder (calls ++ purge_calls folder names) (changes ++ map Remove names)
+    does_purge names =
+        let purge = makes_purge folder names in
+        record {
+          makes = record {
+            made = λ temporary. joined folder calls (purge_calls folder names) (map Remove names) purge.made temporary ∙ ap (λ (first : List Change). first ++ map Remove names) (does.makes.made temporary);
+            synced = both_synced changes (map Remove names) does.makes.synced purge.synced;
+            ends = purge_ends names;
+          };
+          alone = λ other differs temporary.
+              joined other calls (purge_calls folder names) [] (purge_alone folder other differs names) temporary
+              ∙ ap (λ (first : List Change). first ++ []) (does.alone other differs temporary);
+        }
+
+-- ---- rows
+
+-- the row of an answer: its calls make its changes, and a refusal makes none
+pub record IsAnswerRow (folder : List ℕ) (handling : Handling) : Type 0 where
+  pub answers : IsAnswer handling.reply
+  pub does : Does folder handling.calls handling.changes
+  pub none : IsRefusal handling.reply → handling.changes ≡ []
+
+-- The row of a full disk: its calls are those of a new file, and it makes no change. The call behind the look is refused.
+pub record IsFullRow (folder : List ℕ) (handling : Handling) : Type 0 where
+  pub name : List ℕ
+  pub bytes : List ℕ
+  pub free : ℕ
+  pub less : free < length bytes
+  pub replied : handling.reply ≡ NoSpace (length bytes) free
+  pub none : handling.changes ≡ []
+  pub does : Does folder handling.calls (new_file name bytes ∷ [])
+  pub begun : (other : List ℕ) (temporary : Option Content) → changes_by other (take 2 handling.calls) temporary ≡ []
+
+abbrev pub IsRow : List ℕ → Handling → Type 0
+IsRow folder handling = IsAnswerRow folder handling ⊎ IsFullRow folder handling
+
+moved : (handling : Handling) (here other : PlaceModel) → here ≡ other → IsRow (folder_of here) handling → IsRow (folder_of other) handling
+moved handling here other same does = subst (λ (place : PlaceModel). IsRow (folder_of place) handling) same does
+
+module _ (folder : List ℕ) (handling : Handling) where
+  after_look : (calls : List Call) (changes : List Change) (reply : Reply) → IsAnswer reply → (IsRefusal reply → changes ≡ []) → Does folder calls changes → handling ≡ answers_after folder calls changes reply
+      → IsRow folder handling
+  after_look calls changes reply answer none does is = subst (IsRow folder) (sym is) (inl (record { answers = answer; does = does_look folder calls changes does; none = none }))
+
+  looked : (reply : Reply) → IsAnswer reply → handling ≡ answers_after folder [] [] reply → IsRow folder handling
+  looked reply answer is = after_look [] [] reply answer (λ _. refl) (does_none folder) is
+
+  read : (name : List ℕ) (reply : Reply) → IsAnswer reply → handling ≡ answers_after folder (ReadFile folder name ∷ []) [] reply → IsRow folder handling
+  read name reply answer is = after_look (ReadFile folder name ∷ []) [] reply answer (λ _. refl) (does_read folder name) is
+
+  no_room : (name bytes : List ℕ) (free : ℕ) → free < length bytes → handling ≡ answers_after folder (store_calls folder name bytes) [] (NoSpace (length bytes) free) → IsRow folder handling
+  no_room name bytes free less is = subst (IsRow folder) (sym is) (inr (record {
+    name = name;
+    bytes = bytes;
+    free = free;
+    less = less;
+    replied = refl;
+    none = refl;
+    does = does_look folder (store_calls folder name bytes) (new_file name bytes ∷ []) (does_store folder name bytes);
+    begun = λ other temporary. refl;
+  }))
+
+-- what each row of a place does
+module _ (place : PlaceModel) (found : Found) (handling : Handling) where
+  abbrev folder : List ℕ
+  folder = folder_of place
+
+  put_row : (cluster : ClusterModel) (stamp index : ℕ) (bytes : List ℕ) → HandlesPutFrag cluster place stamp index bytes found handling → IsRow folder handling
+  put_row cluster stamp index bytes row = ⊎_elim
+      (λ spoilt. looked folder handling (Spoiled spoilt.0) tt spoilt.2)
+      (λ sound. ⊎_elim
+      (λ covered. looked folder handling (Superseded covered.0) tt covered.2)
+      (λ free. ⊎_elim
+      (λ there. looked folder handling Synced tt there.2)
+      (λ lacking. ⊎_elim
+      (λ full. no_room folder handling (plain_text stamp index) bytes found.room full.0 full.1)
+      (λ fits. after_look folder handling (store_calls folder (plain_text stamp index) bytes) (new_file (plain_text stamp index) bytes ∷ []) Synced tt (λ refusal. absurd refusal) (does_store folder (plain_text stamp index) bytes) fits.1)
+      lacking.1)
+      free.1)
+      sound.1)
+      row
+
+  commit_row : (primary : Bool) (stamp index : ℕ) → HandlesCommit primary place stamp index found handling → IsRow folder handling
+  commit_row primary stamp index row = ⊎_elim
+      (λ durable. looked folder handling Committed tt durable.1)
+      (λ other. ⊎_elim
+      (λ plain. purges plain.1 plain.3)
+      (λ lacking. ⊎_elim
+      (λ covered. looked folder handling (Superseded covered.0) tt covered.2)
+      (λ free. looked folder handling Missing tt free.1)
+      lacking.1)
+      other)
+      row
+    where
+      purges : (obsolete : List (List ℕ)) → handling ≡ answers_after folder (commit_calls folder (plain_text stamp index) (durable_text stamp index) ++ purge_calls folder obsolete) (Rename (plain_text stamp index) (durable_text stamp index) ∷ map Remove obsolete) Committed → IsRow folder handling
+      purges obsolete is =
+          let calls = commit_calls folder (plain_text stamp index) (durable_text stamp index) in
+          let change = Rename (plain_text stamp index) (durable_text stamp index) in
+          after_look folder handling (calls ++ purge_calls folder obsolete) (change ∷ map Remove obsolete) Committed tt (λ refusal. absurd refusal)
+          (does_purge folder calls (change ∷ []) (does_commit folder (plain_text stamp index) (durable_text stamp index)) obsolete) is
+
+  delete_row : (primary : Bool) (stamp : ℕ) → HandlesDelete primary place stamp found handling → IsRow folder handling
+  delete_row primary stamp row = ⊎_elim
+      (λ refused. looked folder handling (Superseded refused.0) tt refused.2)
+      (λ allowed. ⊎_elim
+      (λ there. looked folder handling (Deleted allowed.1) tt there.1)
+      (λ new. buries allowed.1 new.1 new.3)
+      allowed.3)
+      row
+    where
+      buries : (existed : Bool) (obsolete : List (List ℕ)) → handling ≡ answers_after folder (store_calls folder (tombstone_text stamp) [] ++ purge_calls folder obsolete) (new_file (tombstone_text stamp) [] ∷ map Remove obsolete) (Deleted existed) → IsRow folder handling
+      buries existed obsolete is =
+          let calls = store_calls folder (tombstone_text stamp) [] in
+          let change = new_file (tombstone_text stamp) [] in
+          after_look folder handling (calls ++ purge_calls folder obsolete) (change ∷ map Remove obsolete) (Deleted existed) tt (λ refusal. absurd refusal)
+          (does_purge folder calls (change ∷ []) (does_store folder (tombstone_text stamp) []) obsolete) is
+
+  fetch_row : (cluster : ClusterModel) (stamp index : ℕ) → HandlesFetch cluster place stamp index found handling → IsRow folder handling
+  fetch_row cluster stamp index row = ⊎_elim
+      (λ lacking. looked folder handling (Gone lacking.1) tt lacking.3)
+      (λ there.
+      let name = Data stamp index there.0 in
+      ⊎_elim
+      (λ sound. read folder handling (file_name_text name) (Fragment (found.bytes name)) tt sound.1)
+      (λ spoilt. read folder handling (file_name_text name) (Spoiled spoilt.0) tt spoilt.2)
+      there.2)
+      row
+
+  remove_row : (primary : Bool) (stamp index : ℕ) → HandlesRemove primary place stamp index found handling → IsRow folder handling
+  remove_row primary stamp index row = ⊎_elim
+      (λ kept. looked folder handling Kept tt kept.1)
+      (λ handoff. ⊎_elim
+      (λ lacking. looked folder handling Missing tt lacking.1)
+      (λ there.
+      let text = file_name_text (Data stamp index there.0) in
+      after_look folder handling (drop_calls folder text) (Remove text ∷ []) Removed tt (λ refusal. absurd refusal) (does_drop folder text) there.2)
+      handoff.1)
+      row
+
+-- ---- the table
+
+-- each message is handled by a row
+pub row_of : (cluster : ClusterModel) (device : ℕ) (found : Found) (message : Msg) (handling : Handling) → IsHandled cluster device found message handling → (place : PlaceModel) → place_in message ≡ Some place → IsRow (folder_of place) handling
+row_of cluster device found (message.PutFrag here stamp index bytes) handling row place is = moved handling here place (cc) (put_row here found handling cluster stamp index bytes row)
+row_of cluster device found (message.Commit here stamp index) handling row place is = moved handling here place (cc) (commit_row here found handling (is_primary cluster device here) stamp index row)
+row_of cluster device found (message.Delete here stamp) handling row place is = moved handling here place (cc) (delete_row here found handling (is_primary cluster device here) stamp row)
+row_of cluster device found (message.Ask here) handling row place is = moved handling here place (cc) (looked (folder_of here) handling (Held row.0) tt row.2)
+row_of cluster device found (message.Fetch here stamp index) handling row place is = moved handling here place (cc) (fetch_row here found handling cluster stamp index row)
+row_of cluster device found (message.Remove here stamp index) handling row place is = moved handling here place (cc) (remove_row here found handling (is_primary cluster device here) stamp index row)
+row_of cluster device found message.Parts handling row place is = absurd row
+row_of cluster device found (message.Suffixes part) handling row place is = absurd row
+row_of cluster device found (message.Places part) handling row place is = absurd row
+
+module _ (cluster : ClusterModel) (device : ℕ) (found : Found) (message : Msg) (handling : Handling) (handled : IsHandled cluster device found message handling) (place : PlaceModel) (is : place_in message ≡ Some place) where
+  row : IsRow (folder_of place) handling
+  row = row_of cluster device found message handling handled place is
+
+  -- the calls of an answer make its changes
+  pub makes : IsAnswer handling.reply → Makes (folder_of place) handling.calls handling.changes
+  makes answer = ⊎_elim (λ answers. answers.does.makes) (λ full. absurd (subst IsAnswer full.replied answer)) row
+
+  -- no row changes another folder
+  pub quiet_elsewhere : (other : List ℕ) → other ≢ folder_of place → (temporary : Option Content) → changes_by other handling.calls temporary ≡ []
+  quiet_elsewhere = ⊎_elim (λ answers. answers.does.alone) (λ full. full.does.alone) row
+
+  -- where there is no space the row is that of a full disk
+  pub full_row : (need free : ℕ) → handling.reply ≡ NoSpace need free → IsFullRow (folder_of place) handling
+  full_row need free replied = ⊎_elim (λ answers. absurd (subst IsAnswer replied answers.answers)) (λ full. full) row
+
+  -- a refusal changes nothing
+  pub refusal_quiet : IsRefusal handling.reply → handling.changes ≡ []
+  refusal_quiet refusal = ⊎_elim (λ answers. answers.none refusal) (λ full. full.none) row

@@ -1,0 +1,65 @@
+use Rattle.std.proofs.Common.{◌≤◌, ℕ, true, false, List, None, Some, Ok, Err, refl, rules, subst}
+use Rattle.std.proofs.lemmas.Result.{err_from_is_err_and}
+use Rattle.sw_types.specs.Stamp.{greatest_stamp}
+use Rattle.sw_hashpath.specs.Place.{folder_of}
+use Rattle.sw_hashpath.specs.declared.file_name.FileName.TheVariants.{Data}
+use Rattle.sw_suffix.specs.Table.{floor_at}
+use Rattle.sw_message.specs.Table.{HandlesCommit}
+use Rattle.sw_message.specs.declared.reply.Reply.TheVariants.{Committed}
+use Rattle.sw_objsrv.specs.Changing.{MakesAndPurges}
+use Rattle.sw_objsrv.proofs.AfterLook.{directory_looked, handles_after, handles_at_once, keeps_after, order_looked}
+use Rattle.sw_objsrv.proofs.Rows.{commit_row}
+use Rattle.sw_objsrv.proofs.committing.commit.Goals as goal
+
+pub returns-in-Some-clause-handles : goal.returns-in-Some-clause-handles
+returns-in-Some-clause-handles g c =
+    let place = c.args.place.now in
+    let dir = c.in_ok-looked.looked.dir in
+    let Row = HandlesCommit c.args.is_primary place c.args.stamp c.args.index in
+    handles_at_once g.D.Disk.seen g.D.Disk.left_since (folder_of place) Row dir c.in-Some.reply c.args.disk.now c.look_at.new.disk c.in_ok-looked.ensures.runs c.in_ok-looked.ensures.directory
+    (c.in-Some.ensures c.args.is_primary place)
+
+pub returns-in-Some-clause-order : goal.returns-in-Some-clause-order
+returns-in-Some-clause-order g c =
+    let place = c.args.place.now in
+    order_looked g.D.Disk.seen g.D.Disk.left_since (folder_of place) g.D.Disk.tells c.args.is_primary (floor_at place c.args.floors.now.floors) c.args.disk.now c.look_at.new.disk
+    (g.met.D.Disk.telling c.args.disk.now) (g.met.D.Disk.telling c.look_at.new.disk) c.in_ok-looked.ensures.kept
+
+pub make_and_purge-requires-clause-directory : goal.make_and_purge-requires-clause-directory
+make_and_purge-requires-clause-directory g c =
+    rw c.in_ok-looked.ensures.folder (directory_looked g.D.Disk.seen g.D.Disk.left_since (folder_of c.args.place.now) c.in_ok-looked.looked.dir c.args.disk.now c.look_at.new.disk c.in_ok-looked.ensures.runs c.in_ok-looked.ensures.directory)
+
+pub make_and_purge-requires-clause-named : goal.make_and_purge-requires-clause-named
+make_and_purge-requires-clause-named g c =
+    let bound : c.args.stamp ≤ greatest_stamp = search rules in
+    (bound, c.in_ok-looked.looked.indexes c.args.stamp c.args.index false c.in_default.ensures.0)
+
+pub returns-in_err-make_and_purge-clause-handles : goal.returns-in_err-make_and_purge-clause-handles
+returns-in_err-make_and_purge-clause-handles g c =
+    let p = err_from_is_err_and c.from_residual-in_err-make_and_purge.result c.from_residual-in_err-make_and_purge.ensures.1 in
+    let place = c.args.place.now in
+    let dir = c.in_ok-looked.looked.dir in
+    let made = c.in_err-make_and_purge in
+    let reason = made.field-0.0 in
+    let new = c.make_and_purge.new.disk in
+    let makes = subst (λ (folder : List ℕ). MakesAndPurges g.D.Disk.seen g.D.Disk.left_since folder c.args.is_primary (Data c.args.stamp c.args.index true) dir (Some reason) c.look_at.new.disk new) c.in_ok-looked.ensures.folder made.ensures.makes in
+    rw (p.1, p.2) (handles_after g.D.Disk.seen g.D.Disk.left_since (folder_of place) (HandlesCommit c.args.is_primary place c.args.stamp c.args.index) dir (Err reason) c.args.disk.now c.look_at.new.disk new
+    c.in_ok-looked.ensures.runs c.in_ok-looked.ensures.directory
+    (commit_row g.D.Disk.seen g.D.Disk.left_since place dir (Err reason) c.look_at.new.disk new made.ensures.never_full c.args.is_primary c.args.stamp c.args.index c.in_default.ensures tt makes))
+
+pub returns-in_err-make_and_purge-clause-unmade : goal.returns-in_err-make_and_purge-clause-unmade
+returns-in_err-make_and_purge-clause-unmade g c = λ reason is other.
+    let p = err_from_is_err_and c.from_residual-in_err-make_and_purge.result c.from_residual-in_err-make_and_purge.ensures.1 in
+    let same = rw (p.1, p.2) at is in
+    keeps_after g.D.Disk.seen g.D.Disk.left_since (folder_of c.args.place.now) g.D.Disk.tells c.args.disk.now c.look_at.new.disk c.make_and_purge.new.disk (g.met.D.Disk.telling c.args.disk.now) (g.met.D.Disk.telling c.look_at.new.disk)
+    c.in_ok-looked.ensures.runs c.in_ok-looked.ensures.kept (c.in_err-make_and_purge.ensures.unmade reason same other)
+
+pub returns-clause-handles : goal.returns-clause-handles
+returns-clause-handles g c =
+    let place = c.args.place.now in
+    let dir = c.in_ok-looked.looked.dir in
+    let new = c.make_and_purge.new.disk in
+    let makes = subst (λ (folder : List ℕ). MakesAndPurges g.D.Disk.seen g.D.Disk.left_since folder c.args.is_primary (Data c.args.stamp c.args.index true) dir None c.look_at.new.disk new) c.in_ok-looked.ensures.folder c.in_ok-make_and_purge.ensures.makes in
+    handles_after g.D.Disk.seen g.D.Disk.left_since (folder_of place) (HandlesCommit c.args.is_primary place c.args.stamp c.args.index) dir (Ok Committed) c.args.disk.now c.look_at.new.disk new
+    c.in_ok-looked.ensures.runs c.in_ok-looked.ensures.directory
+    (commit_row g.D.Disk.seen g.D.Disk.left_since place dir (Ok Committed) c.look_at.new.disk new tt c.args.is_primary c.args.stamp c.args.index c.in_default.ensures refl makes)

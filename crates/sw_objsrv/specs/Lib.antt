@@ -1,0 +1,5 @@
+pub mod Changing
+pub mod Folder
+pub mod Handling
+pub mod Mounting
+pub mod Node
