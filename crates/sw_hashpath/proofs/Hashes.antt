@@ -18,7 +18,7 @@ pub length-encode_lower : (hash : List ℕ) → length (encode_lower hash) ≡ 2
 length-encode_lower hash = length-encode_with lower_digits hash
 
 -- a text that ends with the digits of a hash
-digits_at_end : (text front hash : List ℕ) → length hash ≡ 16 → text ≡ front ++ encode_lower hash → drop (length text - 32) text ≡ encode_lower hash
+pub digits_at_end : (text front hash : List ℕ) → length hash ≡ 16 → text ≡ front ++ encode_lower hash → drop (length text - 32) text ≡ encode_lower hash
 digits_at_end text front hash sixteen ends =
     let size = length-encode_lower hash in
     let behind : length front ≡ length text - 32 = omega (arith, ap length ends, length-append front (encode_lower hash)) in
@@ -33,7 +33,7 @@ hash_from_end text front hash digits out result is_hash ends last read =
     rw decoded at read
 
 -- a folder ends with the digits of its hash
-folder_end : (place : PlaceModel) → (front : List ℕ) × (folder_of place ≡ front ++ encode_lower place.hash)
+pub folder_end : (place : PlaceModel) → (front : List ℕ) × (folder_of place ≡ front ++ encode_lower place.hash)
 folder_end place =
     let front = codes "objects/" ++ decimal place.part ++ 47 ∷ suffix_of place.hash in
     (front ++ 47 ∷ [], sym (append_assoc front (47 ∷ []) (encode_lower place.hash)))
