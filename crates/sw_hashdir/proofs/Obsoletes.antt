@@ -1,33 +1,10 @@
 -- Names below a floor.
-use Rattle.std.proofs.Common.{◌≡◌, inl, inr, ◌↔◌, Bool, true, List, Contains, IsTrue, MatchOption, Option, Some, None, refl, sym, ap, subst, ◌∙◌}
-use Rattle.std.proofs.lemmas.Bool.{cases_order}
+use Rattle.std.proofs.Common.{◌≡◌, inl, inr, ◌↔◌, Bool, true, List, Contains, IsTrue, MatchOption, Option, Some, None, subst}
 use Rattle.sw_hashpath.specs.declared.file_name.FileName.{FileName}
 use Rattle.sw_hashdir.specs.Directory.{IsFloor}
+use Rattle.sw_hashdir.specs.Laws.{one_floor}
 use Rattle.sw_hashdir.specs.Obsolete.{IsBelow, IsBelowFloor, IsObsolete, IsTwin}
 use Rattle.sw_hashdir.specs.declared.floor.Floor.{Floor}
-use Rattle.sw_hashdir.specs.declared.floor.FloorKind.{FloorKind}
-use Rattle.sw_hashdir.specs.declared.floor.FloorKind.TheVariants as kind
-
-one_kind : (k l : FloorKind) → (k ≡ kind.Tombstone → l ≡ kind.Durable → ⊥) → (l ≡ kind.Tombstone → k ≡ kind.Durable → ⊥) → k ≡ l
-one_kind kind.Durable kind.Durable first second = refl
-one_kind kind.Durable kind.Tombstone first second = absurd (second refl refl)
-one_kind kind.Tombstone kind.Durable first second = absurd (first refl refl)
-one_kind kind.Tombstone kind.Tombstone first second = refl
-
-one_stamp : (names : List FileName) (f g : Floor) → IsFloor names (Some f) → IsFloor names (Some g) → f.stamp ≡ g.stamp
-one_stamp names f g first second = elim (cases_order f.stamp g.stamp) [
-  | inl same ↦ same
-  | inr (inl below) ↦ absurd (first.1 g second.0 (inl below))
-  | inr (inr above) ↦ absurd (second.1 f first.0 (inl above))
-]
-
--- there is one floor at most
-one_floor : (names : List FileName) (f g : Floor) → IsFloor names (Some f) → IsFloor names (Some g) → f ≡ g
-one_floor names f g first second =
-    let stamp = one_stamp names f g first second in
-    let same = one_kind f.kind g.kind (λ up down. second.1 f first.0 (inr (stamp, up, down))) (λ up down. first.1 g second.0 (inr (sym stamp, up, down))) in
-    let moved : f ≡ record { stamp = g.stamp; kind = f.kind } = ap (λ s. record { stamp = s; kind = f.kind }) stamp in
-    moved ∙ ap (λ k. record { stamp = g.stamp; kind = k }) same
 
 below_floor : (names : List FileName) (floor : Option Floor) (name : FileName) → IsFloor names floor → MatchOption floor ⊥ (λ there. IsBelow there name) ↔ IsBelowFloor names name
 below_floor names None name is = (λ none. absurd none, λ below. is below.0 below.1.0)

@@ -1,3 +1,4 @@
 pub mod Directory
+pub mod Laws
 pub mod Listing
 pub mod Obsolete
