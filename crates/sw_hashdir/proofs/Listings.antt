@@ -1,5 +1,5 @@
 -- Entries of names, and the order in which they are listed.
-use Rattle.std.proofs.Common.{◌≡◌, ◌⊎◌, inl, inr, ◌↔◌, ℕ, ◌<◌, Bool, true, false, List, get_or, Contains, refl, ap, subst, arith}
+use Rattle.std.proofs.Common.{◌≡◌, ◌⊎◌, inl, inr, ◌↔◌, ℕ, ◌<◌, false, List, get_or, Contains, refl, ap, subst, arith}
 use Rattle.std.specs.Cmp.{IsTotalOrder}
 use Rattle.std.specs.List.{AllPairs}
 use Rattle.std.specs.Ordering.{nat_cmp, ordering_then}
@@ -7,9 +7,11 @@ use Rattle.std.specs.declared.cmp.Ordering.{Ordering}
 use Rattle.std.specs.declared.cmp.Ordering.TheVariants.{Less, Equal, Greater}
 use Rattle.std.proofs.lemmas.Bool.Decides.{nat_tests}
 use Rattle.std.proofs.lemmas.Cmp.{nat_cmp_total, on_total, then_total}
+use Rattle.std.proofs.lemmas.Map.Lookups.{exact_unsigned}
 use Rattle.sw_hashpath.specs.declared.file_name.FileName.{FileName}
 use Rattle.sw_hashpath.specs.declared.file_name.FileName.TheVariants.{Data, Tombstone}
 use Rattle.sw_hashdir.specs.Directory.{HasEntry, HasEntryAt}
+use Rattle.sw_hashdir.specs.Laws.{entry_there, one_durable}
 use Rattle.sw_hashdir.specs.Listing.{IsBefore, IsListingOf, ListingModel}
 use Rattle.sw_hashdir.specs.declared.entry.Entry.{Entry}
 
@@ -29,25 +31,11 @@ pub one_tombstone : (a b : ℕ) → Tombstone a ≡ Tombstone b → a ≡ b
 one_tombstone a b same = cc
 
 -- an entry that there is has its name
-has_name_at : (names : List FileName) (stamp index : ℕ) (durable : Bool) → HasEntryAt names stamp index durable → Contains names (Data stamp index durable)
-has_name_at names stamp index true has = has
-has_name_at names stamp index false has = has.0
-
 pub has_name : (names : List FileName) (entry : Entry) → HasEntry names entry → Contains names (entry_name entry)
-has_name names entry has = has_name_at names entry.stamp entry.index entry.durable has
-
--- and says of its stamp and index whether it is durable
-one_durable : (names : List FileName) (stamp index : ℕ) (a b : Bool) → HasEntryAt names stamp index a → HasEntryAt names stamp index b → a ≡ b
-one_durable names stamp index true true first second = refl
-one_durable names stamp index true false first second = absurd (second.1 first)
-one_durable names stamp index false true first second = absurd (first.1 second)
-one_durable names stamp index false false first second = refl
+has_name names entry has = entry_there names entry.stamp entry.index entry.durable has
 
 pub nat_less : (a b : ℕ) → nat_cmp a b ≡ Less → a < b
 nat_less a b less = grind (arith, nat_tests)
-
-pub nat_equal : (a b : ℕ) → nat_cmp a b ≡ Equal → a ≡ b
-nat_equal a b tie = grind (arith, nat_tests)
 
 -- by stamp, and then by index
 abbrev pub entry_cmp : Entry → Entry → Ordering
@@ -61,7 +49,7 @@ then_less Less p less = inl refl
 then_less Equal p less = inr (refl, less)
 then_less Greater p less = absurd (cc)
 
-pub then_equal : (o p : Ordering) → ordering_then o p ≡ Equal → (o ≡ Equal) × (p ≡ Equal)
+then_equal : (o p : Ordering) → ordering_then o p ≡ Equal → (o ≡ Equal) × (p ≡ Equal)
 then_equal Less p tie = absurd (cc)
 then_equal Equal p tie = (refl, tie)
 then_equal Greater p tie = absurd (cc)
@@ -69,7 +57,7 @@ then_equal Greater p tie = absurd (cc)
 entry_before : (a b : Entry) → entry_cmp a b ≡ Less → IsBefore a b
 entry_before a b less = elim (then_less (nat_cmp a.stamp b.stamp) (nat_cmp a.index b.index) less) [
   | inl first ↦ inl (nat_less a.stamp b.stamp first)
-  | inr both ↦ inr (nat_equal a.stamp b.stamp both.0, nat_less a.index b.index both.1)
+  | inr both ↦ inr (exact_unsigned a.stamp b.stamp both.0, nat_less a.index b.index both.1)
 ]
 
 pub entries_before : (entries : List Entry) → AllPairs (λ a b. entry_cmp a b ≡ Less) entries → AllPairs IsBefore entries
@@ -79,8 +67,8 @@ entries_before entries up i j d lt within = entry_before (get_or entries i d) (g
 pub entry_ties : (names : List FileName) (a b : Entry) → HasEntry names a → HasEntry names b → entry_cmp a b ≡ Equal → a ≡ b
 entry_ties names a b first second tie =
     let both = then_equal (nat_cmp a.stamp b.stamp) (nat_cmp a.index b.index) tie in
-    let stamp : a.stamp ≡ b.stamp = nat_equal a.stamp b.stamp both.0 in
-    let index : a.index ≡ b.index = nat_equal a.index b.index both.1 in
+    let stamp : a.stamp ≡ b.stamp = exact_unsigned a.stamp b.stamp both.0 in
+    let index : a.index ≡ b.index = exact_unsigned a.index b.index both.1 in
     let moved = subst (λ s. HasEntryAt names s a.index a.durable) stamp first in
     let durable : a.durable ≡ b.durable = one_durable names b.stamp b.index a.durable b.durable (subst (λ i. HasEntryAt names b.stamp i a.durable) index moved) second in
     one_entry a b (cc)

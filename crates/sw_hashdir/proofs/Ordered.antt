@@ -1,5 +1,5 @@
 -- Names in the order of their texts.
-use Rattle.std.proofs.Common.{◌≡◌, ◌≢◌, ◌↔◌, ℕ, ◌+◌, ◌<◌, List, [], ◌∷◌, Contains, Global, String, get_or, length, map, string_bytes, refl, sym, ap, subst, ◌∙◌, arith}
+use Rattle.std.proofs.Common.{◌≡◌, ◌≢◌, ◌↔◌, ℕ, ◌+◌, ◌<◌, List, [], ◌∷◌, Contains, Global, String, get_or, length, map, string_bytes, sym, ap, subst, ◌∙◌, arith}
 use Rattle.std.specs.Cmp.{IsTotalOrder}
 use Rattle.std.specs.Cmp.Lexicographic.{slice_cmp}
 use Rattle.std.specs.List.{All, AllPairs}
@@ -7,24 +7,15 @@ use Rattle.std.specs.List.Sorted.{IsPermutation, IsSortedBy}
 use Rattle.std.specs.Ordering.{is_lt, nat_cmp}
 use Rattle.std.specs.String.{string_cmp}
 use Rattle.std.specs.declared.cmp.Ordering.{Ordering}
-use Rattle.std.specs.declared.cmp.Ordering.TheVariants.{Equal}
 use Rattle.std.proofs.lemmas.Cmp.{nat_list_cmp_total, on_total}
 use Rattle.std.proofs.lemmas.List.{get_or-map, length-map}
 use Rattle.std.proofs.lemmas.List.Sorted.{All-permutation, Contains-permutation, IsPermutation-map, IsPermutation-sym}
+use Rattle.std.proofs.lemmas.Map.Lookups.{exact_bytes}
 use Rattle.sw_hashpath.specs.FileName.{IsFileName, file_name_text}
 use Rattle.sw_hashpath.specs.declared.file_name.FileName.{FileName}
 use Rattle.sw_hashdir.specs.Listing.{IsTextBefore}
 use Rattle.sw_hashdir.proofs.Listed.{distinct_permuted, strictly}
-use Rattle.sw_hashdir.proofs.Listings.{nat_equal, then_equal}
 use Rattle.sw_hashdir.proofs.Texts.{one_text}
-
-same_bytes : (xs ys : List ℕ) → slice_cmp nat_cmp xs ys ≡ Equal → xs ≡ ys
-same_bytes [] [] tie = refl
-same_bytes [] (y ∷ ys) tie = absurd (cc)
-same_bytes (x ∷ xs) [] tie = absurd (cc)
-same_bytes (x ∷ xs) (y ∷ ys) tie =
-    let both = then_equal (nat_cmp x y) (slice_cmp nat_cmp xs ys) tie in
-    ap (λ h. h ∷ xs) (nat_equal x y both.0) ∙ ap (λ t. y ∷ t) (same_bytes xs ys both.1)
 
 -- a name with its text
 abbrev pub Printed : Type 0
@@ -71,5 +62,5 @@ ordered names texts sorted different named is printed moved up =
     record {
       same = λ name. (there name, Contains-permutation names (map name_in sorted) name shuffled);
       ascend = strictly text_order (map name_in sorted) (sorted_names sorted (All-permutation IsPrinted texts sorted moved printed) up) (distinct_permuted names (map name_in sorted) shuffled different)
-          (λ a b first second tie. one_text a b (named a (there a first)) (named b (there b second)) (same_bytes (file_name_text a) (file_name_text b) tie));
+          (λ a b first second tie. one_text a b (named a (there a first)) (named b (there b second)) (exact_bytes (file_name_text a) (file_name_text b) tie));
     }

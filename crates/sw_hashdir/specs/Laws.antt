@@ -1,4 +1,4 @@
--- Laws of directories: there is one floor at most, an entry has its name, and what makes a twin.
+-- Laws of directories: there is one floor at most, an entry has its name and is durable or not, and what makes a twin.
 use Rattle.std.proofs.Common.{◌≡◌, inl, inr, ℕ, Bool, true, false, List, Contains, Some, refl, sym, ap, ◌∙◌}
 use Rattle.std.proofs.lemmas.Bool.{cases_order}
 use Rattle.sw_hashpath.specs.declared.file_name.FileName.{FileName}
@@ -33,6 +33,13 @@ one_floor names a b first second = level a b (second.1 a first.0) (first.1 b sec
 pub entry_there : (names : List FileName) (stamp index : ℕ) (durable : Bool) → HasEntryAt names stamp index durable → Contains names (Data stamp index durable)
 entry_there names stamp index true has = has
 entry_there names stamp index false has = has.0
+
+-- and its stamp and index say whether it is durable
+pub one_durable : (names : List FileName) (stamp index : ℕ) (a b : Bool) → HasEntryAt names stamp index a → HasEntryAt names stamp index b → a ≡ b
+one_durable names stamp index true true first second = refl
+one_durable names stamp index true false first second = absurd (second.1 first)
+one_durable names stamp index false true first second = absurd (first.1 second)
+one_durable names stamp index false false first second = refl
 
 -- a twin is one where more durable names are
 pub twin_more : (names rest : List FileName) → ((stamp index : ℕ) → Contains rest (Data stamp index true) → Contains names (Data stamp index true)) → (name : FileName) → IsTwin rest name → IsTwin names name

@@ -4,7 +4,8 @@ use Rattle.std.specs.Ordering.{nat_cmp}
 use Rattle.std.proofs.lemmas.Cmp.{nat_cmp_total}
 use Rattle.sw_hashpath.specs.declared.file_name.FileName.TheVariants.{Tombstone}
 use Rattle.sw_hashdir.proofs.Listed.{AreKept, kept_here, kept_past, kept_permuted, kept_whole, sorted_by_key, strictly}
-use Rattle.sw_hashdir.proofs.Listings.{nat_equal, nat_less, one_tombstone}
+use Rattle.std.proofs.lemmas.Map.Lookups.{exact_unsigned}
+use Rattle.sw_hashdir.proofs.Listings.{nat_less, one_tombstone}
 use Rattle.sw_hashdir.proofs.listing.tombstones_of.Goals as goal
 use Rattle.sw_hashdir.proofs.listing.tombstones_of.Goals.{After-sort_unstable_by_key, in-Tombstone+in_ok-push, in_default}
 
@@ -31,4 +32,4 @@ returns-clause-all c = λ stamp.
 pub returns-clause-ascend : goal.returns-clause-ascend
 returns-clause-ascend c = λ i j d lt within.
     let whole = kept (goal.at.returns-clause-ascend c).After-sort_unstable_by_key in
-    nat_less _ _ (strictly nat_cmp_total _ (sorted_by_key (λ (stamp : ℕ). stamp) nat_cmp _ c.sort_unstable_by_key.ensures.sorted (λ a r q k. search rules)) whole.distinct (λ a b first second tie. nat_equal a b tie) i j d lt within)
+    nat_less _ _ (strictly nat_cmp_total _ (sorted_by_key (λ (stamp : ℕ). stamp) nat_cmp _ c.sort_unstable_by_key.ensures.sorted (λ a r q k. search rules)) whole.distinct (λ a b first second tie. exact_unsigned a b tie) i j d lt within)
