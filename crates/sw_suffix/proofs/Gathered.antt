@@ -1,5 +1,5 @@
 -- Suffixes at which two lists differ, gathered from the suffixes of both.
-use Rattle.std.proofs.Common.{◌≡◌, ◌≢◌, ◌⊎◌, inl, inr, ℕ, ◌+◌, ◌<◌, ◌≤◌, Bool, true, false, cond, Option, List, length, get_or, take, refl, sym, subst, ◌∙◌}
+use Rattle.std.proofs.Common.{◌≡◌, ◌≢◌, ◌⊎◌, inl, inr, ℕ, ◌+◌, ◌<◌, ◌≤◌, Bool, true, false, true≢false, cond, Option, List, length, get_or, take, refl, sym, subst, ◌∙◌}
 use Rattle.std.specs.List.{All, list_any}
 use Rattle.std.specs.List.Sorted.{IsStrictlySortedBy}
 use Rattle.std.specs.Bool.{Decides}
@@ -88,12 +88,9 @@ module _ (a b : List Hashed) (first second : ℕ → Option (List ℕ)) (left : 
   all_there suffix differs =
       let apart : Differs suffix = λ same. differs (sym (left suffix) ∙ same ∙ right suffix) in
       or_false (two suffix) (λ lacks. differs (differ_somewhere (λ s. Differs s → two s ≡ true) suffix a b
-      (λ has. true_false (sym (has apart) ∙ lacks))
+      (λ has. true≢false (sym (has apart) ∙ lacks))
       (All-weaker (λ hash. Differs hash.0 → one hash.0 ≡ true) (λ hash. Differs hash.0 → two hash.0 ≡ true) (λ hash has d. again.kept hash.0 (has d)) a once.all)
       again.all))
-    where
-      true_false : true ≡ false → ⊥
-      true_false is = cc
 
   -- the suffixes that were gathered, ascending
   pub are_differing : (keys : List ℕ) → ((suffix : ℕ) → two suffix ≡ list_any (eq_by_cmp nat_cmp suffix) keys) → IsStrictlySortedBy nat_cmp keys → AreDiffering a b keys

@@ -1,4 +1,5 @@
 pub mod Entries
 pub mod Kept
+pub mod Laws
 pub mod Suffix
 pub mod Table

@@ -1,4 +1,4 @@
-use Rattle.std.proofs.Common.{◌≡◌, ◌≢◌, ℕ, [], ◌∙◌, ap, true, false, sym}
+use Rattle.std.proofs.Common.{◌≢◌, ℕ, [], ◌∙◌, ap, sym, true≢false}
 use Rattle.std.specs.BTreeMap.{get}
 use Rattle.std.specs.BTreeSet.{contains}
 use Rattle.std.specs.Ordering.{nat_cmp}
@@ -15,11 +15,8 @@ loop-suffix-preserved c =
           (contains nat_cmp c.if-is_differing.suffixes) (λ suffix. ap (λ set. contains nat_cmp set suffix) w.suffixes-is ∙ w.in_ok-insert.ensures.updates.0 suffix) (c.is_differing.ensures.0 w.if-is_differing.true)
       | else-is_differing w ↦
           adds_past differs (contains nat_cmp c.args.suffixes.now) (contains nat_cmp c.loop-suffix.suffixes) c.args.hashes.now c.loop-suffix.suffix-index (0, []) c.loop-suffix-test.true c.loop-suffix.invariant
-          (contains nat_cmp c.if-is_differing.suffixes) (λ suffix. ap (λ set. contains nat_cmp set suffix) w.suffixes-is) (λ apart. true_false (sym (c.is_differing.ensures.1 apart) ∙ w.if-is_differing.false))
+          (contains nat_cmp c.if-is_differing.suffixes) (λ suffix. ap (λ set. contains nat_cmp set suffix) w.suffixes-is) (λ apart. true≢false (sym (c.is_differing.ensures.1 apart) ∙ w.if-is_differing.false))
     ]
-  where
-    true_false : true ≡ false → ⊥
-    true_false is = cc
 
 pub returns-clause-all : goal.returns-clause-all
 returns-clause-all c =

@@ -1,9 +1,7 @@
-use Rattle.std.proofs.Common.{◌≡◌, ap, sym, ◌∙◌}
+use Rattle.std.proofs.Common.{ap, sym, ◌∙◌}
 use Rattle.std.specs.BTreeMap.{is_at}
 use Rattle.std.specs.Map.{lookup}
-use Rattle.sw_hashdir.specs.declared.floor.Floor.{Floor}
-use Rattle.sw_suffix.specs.Entries.{floors_of, key_cmp, key_place}
-use Rattle.sw_suffix.specs.Table.{floor_at}
+use Rattle.sw_suffix.specs.Entries.{key_cmp, key_place}
 use Rattle.sw_suffix.specs.declared.key.Key.{Key}
 use Rattle.sw_suffix.proofs.Keys.{floor_found, key_again}
 use Rattle.sw_suffix.proofs.floors.floor_of.Goals as goal
