@@ -67,38 +67,44 @@ module _ {X : Type 0} (R : X → X → Type 0) (x : X) (xs : List X) (ascend : A
   pub rest_ascend : AllPairs R xs
   rest_ascend = λ i j d lt within. ascend (suc i) (suc j) d (omega arith) (omega arith)
 
+-- by an order in which nothing is before itself
+module _ {X : Type 0} (R : X → X → Type 0) (never : (x : X) → R x x → ⊥) where
+  pub first_once : (x : X) (xs : List X) → AllPairs R (x ∷ xs) → Contains xs x → ⊥
+  first_once x xs ascend again = never x (first_before R x xs ascend x again)
+
+  module _ (trans : (a b c : X) → R a b → R b c → R a c) where
+    one_first : (x y : X) (xs ys : List X) → AllPairs R (x ∷ xs) → AllPairs R (y ∷ ys) → Contains (y ∷ ys) x → Contains (x ∷ xs) y → x ≡ y
+    one_first x y xs ys first second there back = ⊎_elim
+        (λ here. sym here)
+        (λ later. ⊎_elim
+        (λ here. here)
+        (λ also. absurd (never x (trans x y x (first_before R x xs first y also) (first_before R y ys second x later))))
+        (Contains-cases x xs y back))
+        (Contains-cases y ys x there)
+
+    still_later : (x y : X) (xs ys : List X) → x ≡ y → AllPairs R (x ∷ xs) → (z : X) → (Contains (x ∷ xs) z → Contains (y ∷ ys) z) → Contains xs z → Contains ys z
+    still_later x y xs ys same ascend z there has = ⊎_elim
+        (λ here. absurd (first_once x xs ascend (subst (Contains xs) (sym (same ∙ here)) has)))
+        (λ later. later)
+        (Contains-cases y ys z (there (Contains-later x xs z has)))
+
+    -- two of the same members are the same
+    pub same_ascending : (a b : List X) → AllPairs R a → AllPairs R b → ((x : X) → Contains a x ↔ Contains b x) → a ≡ b
+    same_ascending [] [] first second both = refl
+    same_ascending [] (y ∷ ys) first second both = absurd (Contains-none y ((both y).1 (Contains-first y ys)))
+    same_ascending (x ∷ xs) [] first second both = absurd (Contains-none x ((both x).0 (Contains-first x xs)))
+    same_ascending (x ∷ xs) (y ∷ ys) first second both =
+        let same = one_first x y xs ys first second ((both x).0 (Contains-first x xs)) ((both y).1 (Contains-first y ys)) in
+        let rest = same_ascending xs ys (rest_ascend R x xs first) (rest_ascend R y ys second)
+        (λ z. (still_later x y xs ys same first z (both z).0, still_later y x ys xs (sym same) second z (both z).1)) in
+        ap (λ z. z ∷ xs) same ∙ ap (λ zs. y ∷ zs) rest
+
 -- texts, each before the later ones
 abbrev pub IsBefore : List ℕ → List ℕ → Type 0
 IsBefore a b = slice_cmp nat_cmp a b ≡ Less
 
-not_before_itself : (text : List ℕ) → IsBefore text text → ⊥
-not_before_itself text less = let tied = tied_itself nat_list_cmp_total text in absurd (cc)
+pub IsBefore-never : (text : List ℕ) → IsBefore text text → ⊥
+IsBefore-never text less = let tied = tied_itself nat_list_cmp_total text in absurd (cc)
 
-pub first_once : (text : List ℕ) (texts : List (List ℕ)) → AllPairs IsBefore (text ∷ texts) → Contains texts text → ⊥
-first_once text texts ascend again = not_before_itself text (first_before IsBefore text texts ascend text again)
-
-one_first : (x y : List ℕ) (xs ys : List (List ℕ)) → AllPairs IsBefore (x ∷ xs) → AllPairs IsBefore (y ∷ ys) → Contains (y ∷ ys) x → Contains (x ∷ xs) y → x ≡ y
-one_first x y xs ys first second there back = ⊎_elim
-    (λ here. sym here)
-    (λ later. ⊎_elim
-    (λ here. here)
-    (λ also. absurd (not_before_itself x (nat_list_cmp_total.trans x y x (first_before IsBefore x xs first y also) (first_before IsBefore y ys second x later))))
-    (Contains-cases x xs y back))
-    (Contains-cases y ys x there)
-
-still_later : (x y : List ℕ) (xs ys : List (List ℕ)) → x ≡ y → AllPairs IsBefore (x ∷ xs) → (text : List ℕ) → (Contains (x ∷ xs) text → Contains (y ∷ ys) text) → Contains xs text → Contains ys text
-still_later x y xs ys same ascend text there has = ⊎_elim
-    (λ here. absurd (first_once x xs ascend (subst (Contains xs) (sym (same ∙ here)) has)))
-    (λ later. later)
-    (Contains-cases y ys text (there (Contains-later x xs text has)))
-
--- two of the same members are the same
 pub one_ascending : (a b : List (List ℕ)) → AllPairs IsBefore a → AllPairs IsBefore b → ((text : List ℕ) → Contains a text ↔ Contains b text) → a ≡ b
-one_ascending [] [] first second both = refl
-one_ascending [] (y ∷ ys) first second both = absurd (Contains-none y ((both y).1 (Contains-first y ys)))
-one_ascending (x ∷ xs) [] first second both = absurd (Contains-none x ((both x).0 (Contains-first x xs)))
-one_ascending (x ∷ xs) (y ∷ ys) first second both =
-    let same = one_first x y xs ys first second ((both x).0 (Contains-first x xs)) ((both y).1 (Contains-first y ys)) in
-    let rest = one_ascending xs ys (rest_ascend IsBefore x xs first) (rest_ascend IsBefore y ys second)
-    (λ text. (still_later x y xs ys same first text (both text).0, still_later y x ys xs (sym same) second text (both text).1)) in
-    ap (λ t. t ∷ xs) same ∙ ap (λ ts. y ∷ ts) rest
+one_ascending = same_ascending IsBefore IsBefore-never nat_list_cmp_total.trans

@@ -8,7 +8,7 @@ use Rattle.sw_hashdir.specs.Directory.{IsDirectory, IsFloor}
 use Rattle.sw_hashdir.specs.declared.floor.Floor.{Floor}
 use Rattle.sw_diskfile.specs.Normal.{AreObsolete, AreThoseLeft, HaveOneNormalForm, IsNormalForm, IsObsoleteText}
 use Rattle.sw_diskfile.proofs.Directories.{has_content}
-use Rattle.sw_diskfile.proofs.Lists.{Contains-cases, Contains-first, Contains-later, Contains-none, IsBefore, first_once, one_ascending, rest_ascend}
+use Rattle.sw_diskfile.proofs.Lists.{Contains-cases, Contains-first, Contains-later, Contains-none, IsBefore, IsBefore-never, first_once, one_ascending, rest_ascend}
 use Rattle.sw_diskfile.proofs.Obsoletes.{floor_same, obsolete_same, one_directory}
 use Rattle.sw_diskfile.proofs.Removals.{all_left, directory_left, floor_left, left_with, left_without, obsolete_left}
 
@@ -74,7 +74,7 @@ module _ (is_primary : Bool) where
           names = rest.0;
           directory = rest.1;
           all = λ text. (
-            λ has. (left text).1 ((are.all text).0 (Contains-later name obsolete text has), λ same. first_once name obsolete are.ascend (subst (Contains obsolete) same has)),
+            λ has. (left text).1 ((are.all text).0 (Contains-later name obsolete text has), λ same. first_once IsBefore IsBefore-never name obsolete are.ascend (subst (Contains obsolete) same has)),
             λ is.
                 let both = (left text).0 is in
                 ⊎_elim (λ here. absurd (both.1 (sym here))) (λ later. later) (Contains-cases name obsolete text ((are.all text).1 both.0)),
@@ -106,7 +106,7 @@ module _ (is_primary : Bool) where
   pub same_itself : (files : List File) → HaveOneNormalForm is_primary files files
   same_itself files normal = (λ form. form, λ form. form)
 
-  same_trans : (a b c : List File) → HaveOneNormalForm is_primary a b → HaveOneNormalForm is_primary b c → HaveOneNormalForm is_primary a c
+  pub same_trans : (a b c : List File) → HaveOneNormalForm is_primary a b → HaveOneNormalForm is_primary b c → HaveOneNormalForm is_primary a c
   same_trans a b c one two normal = (λ form. (two normal).0 ((one normal).0 form), λ form. (one normal).1 ((two normal).1 form))
 
   pub part_normal : (obsolete : List (List ℕ)) (files : List File) (count : ℕ) → AreObsolete is_primary (names_of files) obsolete → HaveOneNormalForm is_primary files (all_changed (take count (map Remove obsolete)) files)

@@ -4,6 +4,7 @@ use Rattle.std.proofs.lemmas.Bool.{cases_eq, cases_order}
 use Rattle.sw_hashpath.specs.declared.file_name.FileName.{FileName}
 use Rattle.sw_hashpath.specs.declared.file_name.FileName.TheVariants.{Data, Tombstone}
 use Rattle.sw_hashdir.specs.Directory.{HasFloor, HasFloorAt, IsAbove, IsDirectory, IsFloor}
+use Rattle.sw_hashdir.specs.Laws.{twin_more}
 use Rattle.sw_hashdir.specs.Obsolete.{IsBelow, IsBelowFloor, IsObsolete, IsTwin, IsWithout}
 use Rattle.sw_hashdir.specs.declared.floor.Floor.{Floor}
 use Rattle.sw_hashdir.specs.declared.floor.FloorKind.{FloorKind}
@@ -17,10 +18,8 @@ module _ (names rest : List FileName) (more : (name : FileName) → Contains res
   has_floor_more stamp kind.Durable has = (has.0, more (Data stamp has.0 true) has.1)
   has_floor_more stamp kind.Tombstone has = more (Tombstone stamp) has
 
-  twin_more : (name : FileName) → IsTwin rest name → IsTwin names name
-  twin_more (Data stamp index false) twin = more (Data stamp index true) twin
-  twin_more (Data stamp index true) twin = twin
-  twin_more (Tombstone stamp) twin = twin
+  twin_before : (name : FileName) → IsTwin rest name → IsTwin names name
+  twin_before = twin_more names rest (λ stamp index. more (Data stamp index true))
 
 -- a floor stays where none comes to be, and it is still there
 floor_moves : (names rest : List FileName) → ((floor : Floor) → HasFloor rest floor → HasFloor names floor) → ((floor : Floor) → IsFloor names (Some floor) → HasFloor rest floor)
@@ -47,7 +46,7 @@ module _ (names others : List FileName) (same : AreSame names others) where
   obsolete_same is_primary name obsolete = (
     (same name).0 obsolete.0,
     ⊎_elim
-        (λ twin. inl (twin_more others names (λ n. (same n).0) name twin))
+        (λ twin. inl (twin_before others names (λ n. (same n).0) name twin))
         (λ below. inr (below.0, (below.1.0, floor_same (Some below.1.0) below.1.1, below.1.2)))
         obsolete.1,
   )
@@ -146,7 +145,7 @@ module _ (is_primary : Bool) (gone : FileName) (names rest : List FileName) (wit
   pub obsolete_before : (name : FileName) → IsObsolete is_primary rest name → IsObsolete is_primary names name × (name ≢ gone)
   obsolete_before name is =
       let was = (without name).0 is.0 in
-      ((was.0, ⊎_elim (λ twin. inl (twin_more names rest before name twin)) (λ below. inr (below.0, below_floor_before name below.1)) is.1), was.1)
+      ((was.0, ⊎_elim (λ twin. inl (twin_before names rest before name twin)) (λ below. inr (below.0, below_floor_before name below.1)) is.1), was.1)
 
   pub obsolete_still : (name : FileName) → IsObsolete is_primary names name → name ≢ gone → IsObsolete is_primary rest name
   obsolete_still name is other = (
