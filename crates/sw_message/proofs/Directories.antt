@@ -1,40 +1,18 @@
 -- What lists of the same names have in common: a floor, entries, a listing, and what is obsolete once a name was made.
-use Rattle.std.proofs.Common.{◌≡◌, inl, inr, ⊎_elim, ◌↔◌, ℕ, Bool, true, false, Contains, List, Some, refl, sym, ap, ◌∙◌, arith}
+use Rattle.std.proofs.Common.{◌≡◌, inl, inr, ⊎_elim, ◌↔◌, ℕ, Bool, true, false, Contains, List, Some, ap, ◌∙◌, arith}
 use Rattle.std.specs.Bool.{one_answer}
-use Rattle.std.proofs.lemmas.Bool.{cases_order}
 use Rattle.sw_hashpath.specs.declared.file_name.FileName.{FileName}
 use Rattle.sw_hashpath.specs.declared.file_name.FileName.TheVariants.{Data, Tombstone}
-use Rattle.sw_hashdir.specs.Directory.{HasEntryAt, IsAbove, IsFloor}
+use Rattle.sw_hashdir.specs.Directory.{HasEntryAt, IsFloor}
+use Rattle.sw_hashdir.specs.Laws.{entry_there, level, one_durable as durable_once}
 use Rattle.sw_hashdir.specs.Listing.{IsBefore, IsListingOf, ListingModel}
 use Rattle.sw_hashdir.specs.Obsolete.{IsAfter}
 use Rattle.sw_hashdir.specs.declared.entry.Entry.{Entry}
 use Rattle.sw_hashdir.specs.declared.floor.Floor.{Floor}
-use Rattle.sw_hashdir.proofs.Directories.{kind_either}
-use Rattle.sw_diskfile.proofs.Lists.{one_ascending}
+use Rattle.sw_diskfile.proofs.Lists.{one_ascending, same_ascending}
 use Rattle.sw_diskfile.proofs.Obsoletes.{AreSame, floor_same, obsolete_same}
 use Rattle.sw_message.specs.Table.{Allows, ArePurged, HasDurableFloor, IsCovered, IsUncovered, LacksEntry, Refuses}
-use Rattle.sw_message.proofs.Ascending.{number_never, number_trans, same_ascending, same_numbers}
-
--- ---- floors
-
-level : (a b : Floor) → (IsAbove a b → ⊥) → (IsAbove b a → ⊥) → a ≡ b
-level a b not_above not_below = elim (cases_order a.stamp b.stamp) [
-  | inl same ↦ elim (kind_either a.kind) [
-    | inl tombstone ↦ elim (kind_either b.kind) [
-      | inl also ↦ of_parts same (tombstone ∙ sym also)
-      | inr durable ↦ absurd (not_above (inr (same, tombstone, durable)))
-    ]
-    | inr durable ↦ elim (kind_either b.kind) [
-      | inl tombstone ↦ absurd (not_below (inr (sym same, tombstone, durable)))
-      | inr also ↦ of_parts same (durable ∙ sym also)
-    ]
-  ]
-  | inr (inl less) ↦ absurd (not_below (inl less))
-  | inr (inr more) ↦ absurd (not_above (inl more))
-]
-  where
-    of_parts : a.stamp ≡ b.stamp → a.kind ≡ b.kind → a ≡ b
-    of_parts stamp kind = ap (λ s. record { stamp = s; kind = a.kind }) stamp ∙ ap (λ k. record { stamp = b.stamp; kind = k }) kind
+use Rattle.sw_message.proofs.Ascending.{number_never, number_trans, same_numbers}
 
 -- ---- entries, in their order
 
@@ -43,10 +21,6 @@ IsBefore-never entry before = number_never entry.stamp before (λ less. omega (a
 
 IsBefore-trans : (a b c : Entry) → IsBefore a b → IsBefore b c → IsBefore a c
 IsBefore-trans a b c first second = number_trans a.stamp b.stamp c.stamp first second (λ f g. omega (arith, f, g))
-
-pub entry_there : (names : List FileName) (stamp index : ℕ) (durable : Bool) → HasEntryAt names stamp index durable → Contains names (Data stamp index durable)
-entry_there names stamp index true has = has
-entry_there names stamp index false has = has.0
 
 pub turned : (names others : List FileName) → AreSame names others → AreSame others names
 turned names others same name = ((same name).1, (same name).0)
@@ -82,10 +56,7 @@ module _ (names others : List FileName) (same : AreSame names others) where
   back = turned names others same
 
   pub one_durable : (stamp index : ℕ) (a b : Bool) → HasEntryAt names stamp index a → HasEntryAt others stamp index b → a ≡ b
-  one_durable stamp index true true first second = refl
-  one_durable stamp index true false first second = absurd (second.1 ((same (Data stamp index true)).0 first))
-  one_durable stamp index false true first second = absurd (first.1 ((same (Data stamp index true)).1 second))
-  one_durable stamp index false false first second = refl
+  one_durable stamp index a b first second = durable_once names stamp index a b first (entry_same others names back stamp index b second)
 
   pub one_existed : (a b : Bool) → (a ≡ true) ↔ HasDurableFloor names → (b ≡ true) ↔ HasDurableFloor others → a ≡ b
   one_existed a b first second = one_answer a b first (λ is. durable_same others names back (second.0 is), λ has. second.1 (durable_same names others same has))

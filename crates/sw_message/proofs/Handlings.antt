@@ -6,6 +6,7 @@ use Rattle.sw_hashpath.specs.FileName.{file_name_text}
 use Rattle.sw_hashpath.specs.Place.{PlaceModel}
 use Rattle.sw_hashpath.specs.declared.file_name.FileName.{FileName}
 use Rattle.sw_hashpath.specs.declared.file_name.FileName.TheVariants.{Data, Tombstone}
+use Rattle.sw_hashdir.specs.Laws.{entry_there}
 use Rattle.sw_diskfile.proofs.Directories.{has_content}
 use Rattle.sw_diskfile.proofs.Obsoletes.{AreSame, one_directory}
 use Rattle.sw_ring.specs.Cluster.{ClusterModel}
@@ -14,7 +15,7 @@ use Rattle.sw_message.specs.Step.{IsFound}
 use Rattle.sw_message.specs.Table.{Found, Handling, HandlesAsk, HandlesCommit, HandlesDelete, HandlesFetch, HandlesPutFrag, HandlesRemove, IsHandled}
 use Rattle.sw_message.specs.declared.message.Msg.{Msg}
 use Rattle.sw_message.specs.declared.message.Msg.TheVariants.{PutFrag, Commit, Delete, Ask, Fetch, Remove, Parts, Suffixes, Places}
-use Rattle.sw_message.proofs.Directories.{covered_or_not, entry_there, one_durable, one_existed, one_floor, one_listing, one_purge, refused_or_allowed, there_or_lacks, turned}
+use Rattle.sw_message.proofs.Directories.{covered_or_not, one_durable, one_existed, one_floor, one_listing, one_purge, refused_or_allowed, there_or_lacks, turned}
 use Rattle.sw_message.proofs.Spoils.{FaultLaw, asked_or_spoiled, one_spoil}
 
 -- of two cases the same one, where they exclude one another

@@ -1,15 +1,12 @@
 -- A message that is about no place has one answer.
 use Rattle.std.proofs.Common.{◌≡◌, ◌≢◌, ℕ, ◌<◌, Contains, List, [], sym, ap, subst, ◌∙◌, arith}
-use Rattle.std.specs.Cmp.{tied_itself}
-use Rattle.std.specs.Cmp.Lexicographic.{slice_cmp}
-use Rattle.std.specs.Ordering.{nat_cmp}
-use Rattle.std.specs.declared.cmp.Ordering.TheVariants.{Less}
 use Rattle.std.proofs.lemmas.Cmp.{nat_list_cmp_total}
 use Rattle.std.proofs.lemmas.List.Elements.{All-contains}
 use Rattle.md5.specs.Md5.{md5}
 use Rattle.sw_hashpath.specs.Place.{PlaceModel}
 use Rattle.sw_hashdir.specs.declared.floor.Floor.{Floor}
-use Rattle.sw_diskfile.proofs.Lists.{Contains-map, mapped}
+use Rattle.sw_diskfile.proofs.Lists.{Contains-map, IsBefore as IsLess, IsBefore-never as IsLess-never, mapped, same_ascending}
+use Rattle.sw_suffix.specs.Laws.{IsBefore-never}
 use Rattle.sw_suffix.specs.Suffix.{suffix_number, suffix_text}
 use Rattle.sw_suffix.specs.Table.{AreHashes, Hashed, IsBefore, in_suffix}
 use Rattle.sw_message.specs.Step.{AreFloors, Folders}
@@ -18,21 +15,12 @@ use Rattle.sw_message.specs.declared.message.Msg.{Msg}
 use Rattle.sw_message.specs.declared.message.Msg.TheVariants as message
 use Rattle.sw_message.specs.declared.reply.Reply.{Reply}
 use Rattle.sw_message.specs.declared.reply.Reply.TheVariants.{PartList, PlaceList, SuffixList}
-use Rattle.sw_message.proofs.Ascending.{number_never, number_trans, same_ascending, same_numbers}
+use Rattle.sw_message.proofs.Ascending.{number_trans, same_numbers}
 
--- ---- texts, and floors by partition, suffix and hash
-
-abbrev IsLess : List ℕ → List ℕ → Type 0
-IsLess a b = slice_cmp nat_cmp a b ≡ Less
-
-IsLess-never : (a : List ℕ) → IsLess a a → ⊥
-IsLess-never a less = let tied = tied_itself nat_list_cmp_total a in absurd (cc)
+-- ---- floors, by partition, suffix and hash
 
 abbrev Placed : Type 0
 Placed = PlaceModel × Floor
-
-IsBefore-never : (a : Placed) → IsBefore a a → ⊥
-IsBefore-never a before = number_never a.0.part before (λ within. number_never (suffix_number a.0.hash) within (IsLess-never a.0.hash))
 
 IsBefore-trans : (a b c : Placed) → IsBefore a b → IsBefore b c → IsBefore a c
 IsBefore-trans a b c first second = number_trans a.0.part b.0.part c.0.part first second (λ f g.
@@ -41,7 +29,7 @@ IsBefore-trans a b c first second = number_trans a.0.part b.0.part c.0.part firs
 -- ---- the lists
 
 one_floors : (power : ℕ) (folders : Folders) (a b : List Placed) → AreFloors power folders a → AreFloors power folders b → a ≡ b
-one_floors power folders a b first second = same_ascending IsBefore IsBefore-never IsBefore-trans a b first.ordered second.ordered
+one_floors power folders a b first second = same_ascending IsBefore (λ a. IsBefore-never a.0 a.1 a.1) IsBefore-trans a b first.ordered second.ordered
     (λ x. (λ has. (second.all x.0 x.1).1 ((first.all x.0 x.1).0 has), λ has. (first.all x.0 x.1).1 ((second.all x.0 x.1).0 has)))
 
 has_hash : (part : ℕ) (floors : List Placed) (a b : List Hashed) → AreHashes part floors a → AreHashes part floors b → (x : Hashed) → Contains a x → Contains b x
