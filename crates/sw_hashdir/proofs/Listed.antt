@@ -24,16 +24,6 @@ pub record AreKept {X Y : Type 0} (name_of : Y → X) (P : Y → Type 0) (seen :
   pub all : (y : Y) → P y → Contains seen (name_of y) → Contains kept y
   pub distinct : AllPairs (λ a b. a ≢ b) kept
 
-contained_nothing : {X : Type 0} (x : X) → Contains [] x → ⊥
-contained_nothing x has = absurd (omega (arith, has.1))
-
-pub kept_none : {X Y : Type 0} (name_of : Y → X) (P : Y → Type 0) → AreKept name_of P [] []
-kept_none name_of P = record {
-  found = λ y has. absurd (contained_nothing y has);
-  all = λ y is has. absurd (contained_nothing (name_of y) has);
-  distinct = λ i j d lt within. absurd (omega arith);
-}
-
 -- the next name gives an element
 pub kept_more : {X Y : Type 0} (name_of : Y → X) (P : Y → Type 0) → ((a b : Y) → name_of a ≡ name_of b → a ≡ b) → (seen : List X) (kept : List Y) (x : X) (y : Y) → (Contains seen x → ⊥) → AreKept name_of P seen kept → P y → name_of y ≡ x → AreKept name_of P (seen ++ x ∷ []) (kept ++ y ∷ [])
 kept_more name_of P one seen kept x y new so_far is named = record {
