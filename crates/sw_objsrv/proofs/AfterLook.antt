@@ -1,67 +1,92 @@
--- Handlings of a message that begin with a look at a folder.
-use Rattle.std.proofs.Common.{◌≡◌, inl, inr, ℕ, Bool, List, [], ◌∷◌, ◌++◌, Option, Some, None, Result, Ok, Err, IfErr, IfOk, refl, sym, ◌∙◌, ap, subst}
+-- A look at a folder: what it tells of the disk before it, and handlings of a message that begin with it.
+use Rattle.std.proofs.Common.{ℕ, List, [], ◌∷◌, Option, None, Some, refl, subst, ◌≡◌, inl, inr, Bool, ◌++◌, Result, Ok, Err, IfErr, IfOk, sym, ◌∙◌, ◌↔◌, ⊎_elim, true, false, Contains, map, IsSome}
 use Rattle.std.specs.Prelude.{⊤}
+use Rattle.sw_disk.specs.Calls.{Call, ListNames, Step, calls_in}
+use Rattle.sw_disk.specs.Folder.{File, files_of, Content, content_at, Remove, Rename}
+use Rattle.sw_disk.specs.Runs.{IfTold, Past, Runs, Seen, StopsTold, IsTelling, IsUntouched, refusal_of}
+use Rattle.sw_disk.specs.State.{State, free_of, run}
+use Rattle.sw_disk.proofs.Chains.{steps_of, runs_after, runs_more, runs_none, told_map}
+use Rattle.sw_disk.proofs.Settling.{AreQuiet, files_kept}
+use Rattle.sw_diskfile.proofs.Kept.{always, quiet_keeps}
+use Rattle.sw_objsrv.proofs.Found.{bytes_in, found_in, is_found, room_in}
+use Rattle.sw_objsrv.proofs.InOrder.{order_kept}
+use Rattle.sw_objsrv.proofs.Keeping.{keeps_twice}
+use Rattle.sw_objsrv.proofs.Room.{AreWithin, free_kept}
+use Rattle.sw_objsrv.proofs.Told.{has_told, told_after}
 use Rattle.std.proofs.lemmas.List.{append-nil}
-use Rattle.sw_disk.specs.Answers.{IsNotFull, names_of}
-use Rattle.sw_disk.specs.Calls.{Call, ListNames}
-use Rattle.sw_disk.specs.Folder.{Content, File, content_at, files_of}
-use Rattle.sw_disk.specs.Runs.{IfTold, IsTelling, IsUntouched, Past, Runs, Seen, refusal_of}
-use Rattle.sw_disk.specs.State.{State, free_of}
+use Rattle.sw_disk.specs.Answers.{IsNotFull, names_of, HasFile, LacksFile}
 use Rattle.sw_disk.specs.declared.refusal.DiskRefusal.{DiskRefusal}
 use Rattle.sw_disk.specs.declared.refusal.DiskRefusal.TheVariants.{Failed, Full, NoMemory}
-use Rattle.sw_disk.proofs.Chains.{runs_after, runs_more, runs_none}
-use Rattle.sw_hashpath.specs.FileName.{file_name_text}
+use Rattle.sw_hashpath.specs.FileName.{file_name_text, IsFileName}
 use Rattle.sw_hashpath.specs.declared.file_name.FileName.{FileName}
-use Rattle.sw_hashdir.specs.Directory.{IsDirectory}
+use Rattle.sw_hashdir.specs.Directory.{IsDirectory, HasEntry, HasEntryAt}
 use Rattle.sw_hashdir.specs.declared.floor.Floor.{Floor}
-use Rattle.sw_diskfile.specs.Changes.{IsAsBefore, Keeps}
-use Rattle.sw_diskfile.specs.Names.{IsDirectoryOf, RunsUnlessMemory}
-use Rattle.sw_diskfile.proofs.Kept.{quiet_keeps}
+use Rattle.sw_diskfile.specs.Changes.{IsAsBefore, Keeps, new_file}
+use Rattle.sw_diskfile.specs.Names.{IsDirectoryOf, RunsUnlessMemory, MakesName}
 use Rattle.sw_diskfile.proofs.Tidied.{look_done}
-use Rattle.sw_message.specs.Step.{IsFound}
-use Rattle.sw_message.specs.Table.{Found, Handling, answers_after}
+use Rattle.sw_message.specs.Table.{Found, Handling, answers_after, Allows, HandlesCommit, HandlesDelete, HandlesRemove, HasDurableFloor, durable_text, plain_text, tombstone_text}
 use Rattle.sw_message.specs.declared.reply.Reply.{Reply}
-use Rattle.sw_objsrv.specs.Changing.{HandlesAfterLook, IsAtOnce, RunsAfterLook}
+use Rattle.sw_objsrv.specs.Changing.{HandlesAfterLook, IsAtOnce, RunsAfterLook, Drops, MakesAndPurges}
 use Rattle.sw_objsrv.specs.Folder.{IsInOrder, StaysInOrder}
 use Rattle.sw_objsrv.specs.Handling.{Handles, IsAnswer, RunsHandling, StopsEarly}
-use Rattle.sw_objsrv.proofs.Orders.{order_kept}
-use Rattle.sw_objsrv.proofs.Told.{has_told, keeps_twice, told_after}
+use Rattle.sw_hashpath.specs.Place.{PlaceModel, folder_of}
+use Rattle.sw_hashpath.specs.declared.file_name.FileName.TheVariants.{Data, Tombstone}
+use Rattle.sw_hashdir.specs.declared.entry.Entry.{Entry}
+use Rattle.sw_diskfile.specs.Calls.{commit_calls, drop_calls, purge_calls, store_calls}
+use Rattle.sw_message.specs.declared.reply.Reply.TheVariants.{Committed, Deleted, Removed}
+use Rattle.sw_hashdir.specs.Obsolete.{IsAfter}
+use Rattle.sw_diskfile.proofs.Directories.{has_content, has_name}
 
--- ---- what is found
+-- ---- the directory that a look gave
 
-abbrev bytes_in : Option Content → List ℕ
-bytes_in None = []
-bytes_in (Some content) = content.bytes
+none_there : (content : Option Content) → (IsSome content → ⊥) → content ≡ None
+none_there None never = refl
+none_there (Some content) never = absurd (never refl)
 
--- the bytes of each name and the free ones, and some where the disk doesn't tell
-abbrev found_in : Option State → List ℕ → List FileName → Found
-found_in None folder names = record { names = names; bytes = λ name. []; room = 0 }
-found_in (Some state) folder names = record { names = names; bytes = λ name. bytes_in (content_at (file_name_text name) (files_of (state.folder folder))); room = free_of state }
+module _ (told : Option State) (folder : List ℕ) (names : List FileName) (is : IfTold told (λ s. IsDirectoryOf (s.folder folder) names)) (name : FileName) where
+  pub has_file : Contains names name → IfTold told (λ s. HasFile s folder (file_name_text name))
+  has_file has = told_map told (λ s. IsDirectoryOf (s.folder folder) names) (λ s. HasFile s folder (file_name_text name)) is
+      (λ s directory. has_content (files_of (s.folder folder)) (file_name_text name) ((directory name).0 has).1)
 
-found_is : (told : Option State) (folder : List ℕ) (names : List FileName) → IfTold told (λ s. IsDirectoryOf (s.folder folder) names) → IfTold told (λ s. IsFound (files_of (s.folder folder)) (free_of s) (found_in told folder names))
-found_is None folder names is = tt
-found_is (Some state) folder names is = record { directory = is; bytes = λ name content there. bytes_there name content there; room_is = refl }
-  where
-    bytes_there : (name : FileName) (content : Content) → content_at (file_name_text name) (files_of (state.folder folder)) ≡ Some content → bytes_in (content_at (file_name_text name) (files_of (state.folder folder))) ≡ content.bytes
-    bytes_there name content there = ap bytes_in there
+  pub lacks_file : IsFileName name → (Contains names name → ⊥) → IfTold told (λ s. LacksFile s folder (file_name_text name))
+  lacks_file is_name lacks = told_map told (λ s. IsDirectoryOf (s.folder folder) names) (λ s. LacksFile s folder (file_name_text name)) is
+      (λ s directory. none_there (content_at (file_name_text name) (files_of (s.folder folder)))
+      (λ some. lacks ((directory name).1 (is_name, has_name (files_of (s.folder folder)) (file_name_text name) some))))
 
-row_found : (Row : Found → Handling → Type 0) (handling : Handling) (told : Option State) (folder : List ℕ) (names : List FileName) → ((bytes : FileName → List ℕ) (room : ℕ) → Row (record { names = names; bytes = bytes; room = room }) handling)
-    → Row (found_in told folder names) handling
-row_found Row handling None folder names row = row (λ name. []) 0
-row_found Row handling (Some state) folder names row = row (λ name. bytes_in (content_at (file_name_text name) (files_of (state.folder folder)))) (free_of state)
+-- the directory once a file was made
+pub directory_made : (tells : Bool) (a b : Option State) → IsTelling tells a → IsTelling tells b → (folder : List ℕ) (made : FileName) (names later : List FileName) → IfTold a (λ s. IsDirectoryOf (s.folder folder) names)
+    → IfTold a (λ s. IfTold b (λ t. MakesName made (s.folder folder) (t.folder folder))) → IsAfter made names later → IfTold b (λ t. IsDirectoryOf (t.folder folder) later)
+directory_made tells a b first second folder made names later is makes after =
+    told_after tells a b first second (λ s t. IsDirectoryOf (s.folder folder) names × MakesName made (s.folder folder) (t.folder folder)) (λ t. IsDirectoryOf (t.folder folder) later)
+    (has_told a b (λ s. IsDirectoryOf (s.folder folder) names) (λ s t. MakesName made (s.folder folder) (t.folder folder)) is makes) (λ s t both. both.1 names later both.0 after)
+
+-- ---- before the look
+
+-- where all calls were done
+back_told : (steps : List Step) (rest : List Call) (Has P Q : State → Type 0) (a b : Option State) → ((state : State) → Has state → Q (run steps state) → P state) → StopsTold steps rest None a b → IfTold a Has → IfTold b Q → IfTold a P
+back_told steps rest Has P Q None b back stops had has = tt
+back_told steps rest Has P Q (Some a) b back stops had has = back a had (subst Q (stops.2.whole refl) (subst (λ (o : Option State). IfTold o Q) stops.1 has))
+
+module _ {D : Type 0} (seen : D → Seen) (left_since : D → Past) (folder : List ℕ) (a b : D) (looked : Runs seen left_since (ListNames folder ∷ []) None a b) where
+  quiet : AreQuiet (calls_in looked.steps)
+  quiet = subst AreQuiet (steps_of seen left_since (ListNames folder ∷ []) a b looked) tt
+
+  -- of the files in a folder
+  pub files_before : (name : List ℕ) (P : List File → Type 0) → IfTold (seen b).told (λ s. P (files_of (s.folder name))) → IfTold (seen a).told (λ s. P (files_of (s.folder name)))
+  files_before name P has =
+      back_told looked.steps looked.rest (λ s. ⊤) (λ s. P (files_of (s.folder name))) (λ s. P (files_of (s.folder name))) (seen a).told (seen b).told
+      (λ state _ is. subst P (files_kept looked.steps state name quiet) is) looked.told (always (seen a).told) has
+
+  -- of how many bytes are free
+  pub room_before : (P : ℕ → Type 0) → IfTold (seen a).told AreWithin → IfTold (seen b).told (λ s. P (free_of s)) → IfTold (seen a).told (λ s. P (free_of s))
+  room_before P within has =
+      back_told looked.steps looked.rest AreWithin (λ s. P (free_of s)) (λ s. P (free_of s)) (seen a).told (seen b).told (λ state had is. subst P (free_kept looked.steps state quiet had) is) looked.told within has
 
 -- ---- calls
 
 module _ {D : Type 0} (seen : D → Seen) (left_since : D → Past) (folder : List ℕ) where
   abbrev Looks : Option DiskRefusal → D → D → Type 0
   Looks refusal a b = RunsUnlessMemory seen left_since (ListNames folder ∷ []) refusal a b
-
-  -- the look was refused
-  pub stops_early : (reason : DiskRefusal) (a b : D) → IsNotFull reason → Looks (Some reason) a b → StopsEarly seen left_since (ListNames folder) (Err reason) a b
-  stops_early Failed a b other (inl run) = run
-  stops_early Failed a b other (inr want) = let is = want.0 in absurd (cc)
-  stops_early (Full need free) a b other looked = absurd other
-  stops_early NoMemory a b other looked = looked
 
   -- memory was wanted behind it
   wants_memory : (result : Result Reply DiskRefusal) (a b c : D) → Looks None a b → refusal_of result ≡ Some NoMemory → IsUntouched seen left_since b c → StopsEarly seen left_since (ListNames folder) result a c
@@ -102,10 +127,10 @@ module _ {D : Type 0} (seen : D → Seen) (left_since : D → Past) (folder : Li
   handles_after Row names result a b c looked directory (inr follows) =
       let handling = answers_after folder follows.calls follows.changes follows.reply in
       inr (record {
-        found = found_in (seen a).told folder names;
-        is_found = found_is (seen a).told folder names directory;
+        found = found_in (seen a).told folder names [] 0;
+        is_found = is_found (seen a).told folder names [] 0 directory;
         handling = handling;
-        row = row_found Row handling (seen a).told folder names follows.row;
+        row = follows.row (bytes_in (seen a).told folder []) (room_in (seen a).told 0);
         runs = runs_row follows.reply follows.calls result handling a b c refl refl looked follows.runs;
       })
 
@@ -130,7 +155,7 @@ module _ {D : Type 0} (seen : D → Seen) (left_since : D → Past) (folder : Li
 
   -- the look, and folders that are kept behind it
   pub keeps_after : (tells : Bool) (a b c : D) → IsTelling tells (seen a).told → IsTelling tells (seen b).told → Looks None a b → Keeps seen left_since (λ _. ⊤) a b → Keeps seen left_since (λ _. ⊤) b c → Keeps seen left_since (λ _. ⊤) a c
-  keeps_after tells a b c tell_a tell_b looked first second = keeps_twice seen left_since a b c tells tell_a tell_b (look_done seen left_since folder a b looked).later first second
+  keeps_after tells a b c tell_a tell_b looked first second = keeps_twice seen left_since (λ _. ⊤) a b c tells tell_a tell_b (look_done seen left_since folder a b looked).later first second
 
   -- a folder stays in order
   pub order_looked : (tells : Bool) (is_primary : Bool) (floor : Option Floor) (a b : D) → IsTelling tells (seen a).told → IsTelling tells (seen b).told → Keeps seen left_since (λ _. ⊤) a b → StaysInOrder is_primary folder floor floor (seen a).told (seen b).told
@@ -138,3 +163,56 @@ module _ {D : Type 0} (seen : D → Seen) (left_since : D → Past) (folder : Li
       told_after tells (seen a).told (seen b).told tell_a tell_b (λ s t. IsInOrder is_primary floor (s.folder folder) × IsAsBefore (s.folder folder) (t.folder folder)) (λ t. IsInOrder is_primary floor (t.folder folder))
       (has_told (seen a).told (seen b).told (λ s. IsInOrder is_primary floor (s.folder folder)) (λ s t. IsAsBefore (s.folder folder) (t.folder folder)) order (kept.stands folder tt))
       (λ s t is. order_kept is_primary floor (s.folder folder) (t.folder folder) is.1 is.0)
+
+-- ---- the rows in which a file is made or removed
+
+module _ {D : Type 0} (seen : D → Seen) (left_since : D → Past) (place : PlaceModel) (names : List FileName) (result : Result Reply DiskRefusal) (a b : D) (other : IfErr result IsNotFull) where
+  abbrev folder : List ℕ
+  folder = folder_of place
+
+  pub commit_row : (is_primary : Bool) (stamp index : ℕ) → HasEntryAt names stamp index false → IfOk result (λ reply. Committed ≡ reply) → MakesAndPurges seen left_since folder is_primary (Data stamp index true) names (refusal_of result) a b
+      → HandlesAfterLook seen left_since folder (HandlesCommit is_primary place stamp index) names result a b
+  commit_row is_primary stamp index plain is makes = ⊎_elim
+      (λ want. inl want)
+      (λ made. inr (record {
+        reply = Committed;
+        calls = commit_calls folder (plain_text stamp index) (durable_text stamp index) ++ purge_calls folder made.0;
+        changes = Rename (plain_text stamp index) (durable_text stamp index) ∷ map Remove made.0;
+        row = λ bytes room. inr (inl (plain, made.0, made.1, refl));
+        runs = runs_given seen left_since folder Committed (commit_calls folder (plain_text stamp index) (durable_text stamp index) ++ purge_calls folder made.0) result a b tt other is made.2;
+      }))
+      makes
+
+  pub delete_row : (is_primary : Bool) (stamp : ℕ) (existed : Bool) → Allows names stamp → (existed ≡ true) ↔ HasDurableFloor names → (Contains names (Tombstone stamp) → ⊥) → IfOk result (λ reply. Deleted existed ≡ reply)
+      → MakesAndPurges seen left_since folder is_primary (Tombstone stamp) names (refusal_of result) a b → HandlesAfterLook seen left_since folder (HandlesDelete is_primary place stamp) names result a b
+  delete_row is_primary stamp existed allows durable lacks is makes = ⊎_elim
+      (λ want. inl want)
+      (λ made. inr (record {
+        reply = Deleted existed;
+        calls = store_calls folder (tombstone_text stamp) [] ++ purge_calls folder made.0;
+        changes = new_file (tombstone_text stamp) [] ∷ map Remove made.0;
+        row = λ bytes room. inr (allows, existed, durable, inr (lacks, made.0, made.1, refl));
+        runs = runs_given seen left_since folder (Deleted existed) (store_calls folder (tombstone_text stamp) [] ++ purge_calls folder made.0) result a b tt other is made.2;
+      }))
+      makes
+
+  entry_row : (is_primary : Bool) (entry : Entry) → is_primary ≡ false → HasEntry names entry → IfOk result (λ reply. Removed ≡ reply) → Drops seen left_since folder entry (refusal_of result) a b
+      → HandlesAfterLook seen left_since folder (HandlesRemove is_primary place entry.stamp entry.index) names result a b
+  entry_row is_primary entry handoff has is drops =
+      let text = file_name_text (Data entry.stamp entry.index entry.durable) in
+      ⊎_elim
+      (λ want. inl want)
+      (λ runs. inr (record {
+        reply = Removed;
+        calls = drop_calls folder text;
+        changes = Remove text ∷ [];
+        row = λ bytes room. inr (handoff, inr (entry.durable, has, refl));
+        runs = runs_given seen left_since folder Removed (drop_calls folder text) result a b tt other is runs;
+      }))
+      drops
+
+  pub remove_row : (is_primary : Bool) (stamp index : ℕ) (entry : Entry) → is_primary ≡ false → (entry.stamp ≡ stamp) × (entry.index ≡ index) × HasEntry names entry → IfOk result (λ reply. Removed ≡ reply)
+      → Drops seen left_since folder entry (refusal_of result) a b → HandlesAfterLook seen left_since folder (HandlesRemove is_primary place stamp index) names result a b
+  remove_row is_primary stamp index entry handoff found is drops =
+      subst (λ (i : ℕ). HandlesAfterLook seen left_since folder (HandlesRemove is_primary place stamp i) names result a b) found.1
+      (subst (λ (s : ℕ). HandlesAfterLook seen left_since folder (HandlesRemove is_primary place s entry.index) names result a b) found.0 (entry_row is_primary entry handoff found.2 is drops))

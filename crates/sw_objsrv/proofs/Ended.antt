@@ -1,5 +1,5 @@
 -- How the handling of a message ended: its answer, and the count of faults.
-use Rattle.std.proofs.Common.{◌≡◌, ◌≢◌, inl, inr, ℕ, Bool, true, false, Contains, List, [], ◌∷◌, Some, Result, Ok, Err, refl, ap, subst}
+use Rattle.std.proofs.Common.{◌≡◌, ◌≢◌, inl, inr, ℕ, Bool, true, false, Contains, List, [], ◌∷◌, Some, Result, Ok, Err, OnOk, refl, ap, subst}
 use Rattle.sw_words.specs.Counts.{one_more}
 use Rattle.sw_disk.specs.Calls.{Call, ListFolders, ListNames}
 use Rattle.sw_disk.specs.Runs.{Past, Seen}
@@ -85,3 +85,8 @@ fails_fault (Ok reply) is = absurd (cc)
 fails_fault (Err refusal.Failed) is = refl
 fails_fault (Err (refusal.Full need free)) is = absurd (cc)
 fails_fault (Err refusal.NoMemory) is = absurd (cc)
+
+-- what follows where all was done
+pub ok_from : {T : Type 0} (result : Result T DiskRefusal) (P Q R : Type 0) → OnOk result P → OnOk result Q → (P → Q → R) → OnOk result R
+ok_from (Ok value) P Q R first second more = more first second
+ok_from (Err reason) P Q R first second more = tt

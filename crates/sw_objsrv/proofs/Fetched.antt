@@ -1,5 +1,5 @@
--- An entry whose file was read.
-use Rattle.std.proofs.Common.{◌≡◌, ◌⊎◌, inl, inr, ℕ, List, [], ◌∷◌, Option, None, Some, Ok, Err, refl, sym, ap, subst, ◌∙◌}
+-- The reading of an entry: its file was read, or that was stopped.
+use Rattle.std.proofs.Common.{◌≡◌, ◌⊎◌, inl, inr, ℕ, List, [], ◌∷◌, Option, None, Some, Ok, Err, refl, sym, ap, subst, ◌∙◌, Result}
 use Rattle.sw_disk.specs.Answers.{HasBytes, IsNotFull}
 use Rattle.sw_disk.specs.Calls.{Call, ListNames, ReadFile}
 use Rattle.sw_disk.specs.Folder.{Content, File, content_at, files_of}
@@ -22,9 +22,11 @@ use Rattle.sw_message.specs.declared.reply.Reply.{Reply}
 use Rattle.sw_message.specs.declared.reply.Reply.TheVariants.{Fragment, Spoiled}
 use Rattle.sw_message.specs.declared.spoil.Spoil.{Spoil}
 use Rattle.sw_message.specs.declared.message.Msg.TheVariants as message
-use Rattle.sw_objsrv.specs.Handling.{Follows, IsAnswer, StopsReading}
-use Rattle.sw_objsrv.proofs.Found.{found_in, is_found, read_is}
-use Rattle.sw_objsrv.proofs.Looked.{files_before}
+use Rattle.sw_objsrv.specs.Handling.{Follows, IsAnswer, StopsReading, StopsAt}
+use Rattle.sw_objsrv.proofs.AfterLook.{files_before}
+use Rattle.sw_objsrv.proofs.Found.{entry_at, found_in, is_found, read_is}
+use Rattle.sw_diskfile.proofs.Steps.{changes_by}
+use Rattle.sw_message.specs.declared.message.Msg.{Msg}
 
 -- a file of this name has these bytes
 abbrev HasContent : (text bytes : List ℕ) → List File → Type 0
@@ -47,7 +49,7 @@ module _ (cluster : ClusterModel) (place : PlaceModel) (stamp index : ℕ) where
     named = λ i. Data (at i) (of i) entry.durable
 
     there_is : HasEntryAt names stamp index entry.durable
-    there_is = subst (λ i. HasEntryAt names stamp i entry.durable) of (subst (λ s. HasEntryAt names s entry.index entry.durable) at has)
+    there_is = entry_at names entry stamp index (at, of, has)
 
     abbrev reads : List ℕ → FileName → List Call
     reads folder read = ReadFile folder (file_name_text read) ∷ []
@@ -109,3 +111,32 @@ module _ (cluster : ClusterModel) (place : PlaceModel) (stamp index : ℕ) where
       -- memory was wanted behind it
       pub wants_read : Runs seen left_since (reads folder (Data entry.stamp entry.index entry.durable)) None b c → StopsReading seen left_since (message.Fetch place stamp index) (Err NoMemory) a c
       wants_read read = (entry.durable, inr (refl, read_runs None read))
+
+-- ---- reads that were stopped
+
+module _ {D : Type 0} (seen : D → Seen) (left_since : D → Past) (a b : D) where
+  -- they gave no answer
+  pub no_answer : (asked : Msg) (reply : Reply) → StopsReading seen left_since asked (Ok reply) a b → ⊥
+  no_answer (message.Fetch place stamp index) reply read = read.1
+  no_answer (message.PutFrag place stamp index bytes) reply read = read
+  no_answer (message.Commit place stamp index) reply read = read
+  no_answer (message.Delete place stamp) reply read = read
+  no_answer (message.Ask place) reply read = read
+  no_answer (message.Remove place stamp index) reply read = read
+  no_answer message.Parts reply read = read
+  no_answer (message.Suffixes part) reply read = read
+  no_answer (message.Places part) reply read = read
+
+  -- and their calls change nothing
+  pub stops_reading : (asked : Msg) (result : Result Reply DiskRefusal) → StopsReading seen left_since asked result a b
+      → (calls : List Call) × ((name : List ℕ) (temporary : Option Content) → changes_by name calls temporary ≡ []) × StopsAt seen left_since calls result a b
+  stops_reading (message.Fetch place stamp index) result read =
+      (ListNames (folder_of place) ∷ ReadFile (folder_of place) (file_name_text (Data stamp index read.0)) ∷ [], (λ name temporary. refl), read.1)
+  stops_reading (message.PutFrag place stamp index bytes) result read = absurd read
+  stops_reading (message.Commit place stamp index) result read = absurd read
+  stops_reading (message.Delete place stamp) result read = absurd read
+  stops_reading (message.Ask place) result read = absurd read
+  stops_reading (message.Remove place stamp index) result read = absurd read
+  stops_reading message.Parts result read = absurd read
+  stops_reading (message.Suffixes part) result read = absurd read
+  stops_reading (message.Places part) result read = absurd read

@@ -1,5 +1,5 @@
--- What was found in a folder: what the disk tells of it, and else what was read.
-use Rattle.std.proofs.Common.{◌≡◌, ℕ, List, [], Option, Some, None, refl, ap, subst, ◌∙◌}
+-- What was found in a folder: what the disk tells of it, and else what was read; and its entries.
+use Rattle.std.proofs.Common.{◌≡◌, ℕ, List, [], Option, Some, None, refl, ap, subst, ◌∙◌, Bool, true, false}
 use Rattle.sw_disk.specs.Answers.{HasBytes, content_in}
 use Rattle.sw_disk.specs.Folder.{Content, files_of}
 use Rattle.sw_disk.specs.Runs.{IfTold}
@@ -11,6 +11,8 @@ use Rattle.sw_hashdir.specs.declared.entry.Entry.{Entry}
 use Rattle.sw_diskfile.specs.Names.{IsDirectoryOf}
 use Rattle.sw_message.specs.Step.{IsFound}
 use Rattle.sw_message.specs.Table.{Found}
+use Rattle.sw_hashpath.specs.declared.file_name.FileName.TheVariants.{Data}
+use Rattle.sw_objsrv.specs.Changing.{IsNew}
 
 bytes_of : Option Content → List ℕ
 bytes_of None = []
@@ -60,3 +62,8 @@ room_at P (Some state) room else is = is
 pub entry_at : (names : List FileName) (entry : Entry) (stamp index : ℕ) → (entry.stamp ≡ stamp) × (entry.index ≡ index) × HasEntry names entry → HasEntryAt names stamp index entry.durable
 entry_at names entry stamp index found =
     subst (λ i. HasEntryAt names stamp i entry.durable) found.1 (subst (λ s. HasEntryAt names s entry.index entry.durable) found.0 found.2)
+
+-- the plain name is there, and the durable one that is made is not
+pub plain_there : (names : List FileName) (stamp index : ℕ) (durable : Bool) → IsNew names (Data stamp index durable) → HasEntryAt names stamp index false
+plain_there names stamp index true new = new
+plain_there names stamp index false new = absurd new

@@ -1,5 +1,5 @@
 -- What a mounted node is after it handled a message.
-use Rattle.std.proofs.Common.{◌≡◌, ◌≢◌, inl, inr, ℕ, ◌≤◌, Bool, true, false, List, IfOk, OnErr, OnOk, Option, Some, None, Result, Ok, Err, refl, sym, subst, ◌∙◌, []}
+use Rattle.std.proofs.Common.{◌≡◌, ◌≢◌, inl, inr, ℕ, ◌≤◌, Bool, false, List, IfOk, OnErr, OnOk, Option, Some, None, Result, Ok, Err, refl, sym, subst, ◌∙◌, []}
 use Rattle.std.specs.Prelude.{⊤}
 use Rattle.sw_disk.specs.Calls.{Call, ListFolders}
 use Rattle.sw_disk.specs.Folder.{Content, File, IsImage, files_of}
@@ -25,11 +25,11 @@ use Rattle.sw_objsrv.specs.Folder.{AreInOrder, HaveSameFloors, IsInOrder}
 use Rattle.sw_objsrv.specs.Handling.{AreListed, HandlesAt, HandlesSurvey, IsAnswered, IsBeforeOrAfter, IsStamped, StopsAt, Surveys, folders_of, reply_of}
 use Rattle.sw_objsrv.specs.Node.{Handled, IfBothStates, IfSynced, IsByTable, IsNode, IsRefusal, NodeModel}
 use Rattle.sw_objsrv.proofs.Ended.{Ended, failed_counts, fails_fault, fault_fails, has_failed, other_quiet, placed_ended, stopped_ended, survey_ended}
+use Rattle.sw_objsrv.proofs.Fetched.{stops_reading}
 use Rattle.sw_objsrv.proofs.InOrder.{orders_kept}
-use Rattle.sw_objsrv.proofs.Placed.{Leaves, kept_leaves, kept_these, leaves, placed_keeps, placed_step}
-use Rattle.sw_objsrv.proofs.StoppedReads.{stops_reading}
+use Rattle.sw_objsrv.proofs.PlaceStep.{Leaves, kept_leaves, kept_these, leaves, placed_keeps, placed_step}
 use Rattle.sw_objsrv.proofs.SurveyStep.{survey_quiet, survey_step}
-use Rattle.sw_objsrv.proofs.BothTold.{both_each, both_follow, told_both}
+use Rattle.sw_objsrv.proofs.Told.{both_each, both_follow, told_both}
 
 -- the folders that are not that of the message's place
 abbrev pub IsElsewhere : Msg → List ℕ → Type 0
@@ -194,20 +194,10 @@ module _ {D : Type 0} (seen : D → Seen) (left_since : D → Past) (cluster : C
 
   -- ---- it stays a node
 
-  -- what a disk that tells held is as before
-  kept_orders : (tells : Bool) (a b : Option State) → IsTelling tells a → IsTelling tells b → IfTold a (AreInOrder cluster old.device old.floors) → IfTold a (λ before. IfTold b (λ after. (name : List ℕ) → IsAsBefore (before.folder name) (after.folder name)))
-      → HaveSameFloors new.floors old.floors → IfTold b (AreInOrder cluster old.device new.floors)
-  kept_orders true None b first second orders kept same = absurd (cc)
-  kept_orders true (Some before) None first second orders kept same = absurd (cc)
-  kept_orders true (Some before) (Some after) first second orders kept same = orders_kept cluster old.device old.floors new.floors before after same kept orders
-  kept_orders false a None first second orders kept same = tt
-  kept_orders false a (Some after) first second orders kept same = absurd (cc)
-
   other_orders : (tells : Bool) → IsTelling tells (seen old.disk).told → IsTelling tells (seen new.disk).told → Keeps seen left_since (λ _. ⊤) old.disk new.disk → HaveSameFloors new.floors old.floors
       → IfTold (seen new.disk).told (AreInOrder cluster old.device new.floors)
   other_orders tells first second kept same =
-      kept_orders tells (seen old.disk).told (seen new.disk).told first second (node.in_order mounted)
-      (both_each (seen old.disk).told (seen new.disk).told (λ (name : List ℕ) before after. IsAsBefore (before.folder name) (after.folder name)) (λ name. kept.stands name tt)) same
+      orders_kept cluster old.device old.floors new.floors tells (seen old.disk).told (seen new.disk).told first second same (λ folder. kept.stands folder tt) (node.in_order mounted)
 
   ended_orders : (tells : Bool) → IsTelling tells (seen old.disk).told → IsTelling tells (seen new.disk).told → (ended : Result Reply DiskRefusal) → has_failed ended ≡ false
       → ((reason : DiskRefusal) → refusal_of ended ≡ Some reason → reason ≢ refusal.Failed → Keeps seen left_since (λ _. ⊤) old.disk new.disk) → OnErr ended (HaveSameFloors new.floors old.floors)

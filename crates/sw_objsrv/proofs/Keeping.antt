@@ -9,10 +9,10 @@ use Rattle.sw_diskfile.specs.Changes.{AreSynced, IfBothTold, IsAsBefore, Keeps}
 use Rattle.sw_diskfile.specs.Normal.{HaveOneNormalForm, Tidies}
 use Rattle.sw_diskfile.proofs.CallLists.{makes_tidy}
 use Rattle.sw_diskfile.proofs.Kept.{always}
-use Rattle.sw_diskfile.proofs.Normal.{same_itself}
+use Rattle.sw_diskfile.proofs.Normal.{same_itself, same_trans}
 use Rattle.sw_diskfile.proofs.Outcomes.{both_map, changes_run, quiet_run}
 use Rattle.sw_diskfile.proofs.Tidied.{tidy_before, tidy_keeps}
-use Rattle.sw_objsrv.proofs.Telling.{both_more, both_self, told_too}
+use Rattle.sw_objsrv.proofs.Told.{both_more, both_self, told_too}
 
 -- what holds of each disk of a type
 pub record IsDisk {D : Type 0} (seen : D → Seen) (left_since : D → Past) (tells : Bool) : Type 0 where
@@ -27,8 +27,8 @@ pub record KeepsFolder {D : Type 0} (seen : D → Seen) (left_since : D → Past
   pub leaves : IsSome (seen old).told → (t : ℕ) (image : List File) → t ≤ (seen old).moment → left_since new t folder image → (before : List File) × left_since old t folder before × HaveOneNormalForm is_primary before image
   pub synced : IfBothTold (seen old) (seen new) folder (λ before after. AreSynced (files_of before) → AreSynced (files_of after))
 
-normal_more : (is_primary : Bool) (x y z : List File) → HaveOneNormalForm is_primary x y → HaveOneNormalForm is_primary y z → HaveOneNormalForm is_primary x z
-normal_more is_primary x y z first second = λ normal. (λ form. (second normal).0 ((first normal).0 form), λ form. (first normal).1 ((second normal).1 form))
+before_self : (x : Folder) → IsAsBefore x x
+before_self x = record { files = refl; pending = λ none. none; images = λ image w. w }
 
 before_more : (x y z : Folder) → IsAsBefore x y → IsAsBefore y z → IsAsBefore x z
 before_more x y z first second = record {
@@ -37,8 +37,13 @@ before_more x y z first second = record {
   images = λ image w. first.images image (second.images image w);
 }
 
-before_self : (x : Folder) → IsAsBefore x x
-before_self x = record { files = refl; pending = λ none. none; images = λ image w. w }
+-- folders that are kept twice are kept
+pub keeps_twice : {D : Type 0} (seen : D → Seen) (left_since : D → Past) (These : List ℕ → Type 0) (a b c : D) (tells : Bool) → IsTelling tells (seen a).told → IsTelling tells (seen b).told → (seen a).moment ≤ (seen b).moment → Keeps seen left_since These a b
+    → Keeps seen left_since These b c → Keeps seen left_since These a c
+keeps_twice seen left_since These a b c tells tell_a tell_b later first second = record {
+  stands = λ name these. both_more name tells (seen a).told (seen b).told (seen c).told IsAsBefore IsAsBefore IsAsBefore tell_a tell_b before_more (first.stands name these) (second.stands name these);
+  leaves = λ some name these t image le left. first.leaves some name these t image le (second.leaves (told_too tells (seen a).told (seen b).told tell_a tell_b some) name these t image (omega (arith, le, later)) left);
+}
 
 module _ {D : Type 0} (seen : D → Seen) (left_since : D → Past) (tells : Bool) (laws : IsDisk seen left_since tells) where
   some_too : (a b : D) → IsSome (seen a).told → IsSome (seen b).told
@@ -54,10 +59,7 @@ module _ {D : Type 0} (seen : D → Seen) (left_since : D → Past) (tells : Boo
     }
 
     pub keeps_more : (a b c : D) → (seen a).moment ≤ (seen b).moment → Keeps seen left_since These a b → Keeps seen left_since These b c → Keeps seen left_since These a c
-    keeps_more a b c later first second = record {
-      stands = λ name these. both_more name tells (seen a).told (seen b).told (seen c).told IsAsBefore IsAsBefore IsAsBefore (laws.telling a) (laws.telling b) before_more (first.stands name these) (second.stands name these);
-      leaves = λ some name these t image le left. first.leaves some name these t image le (second.leaves (some_too a b some) name these t image (omega (arith, le, later)) left);
-    }
+    keeps_more a b c later first second = keeps_twice seen left_since These a b c tells (laws.telling a) (laws.telling b) later first second
 
     pub keeps_fewer : (Those : List ℕ → Type 0) (a b : D) → ((name : List ℕ) → Those name → These name) → Keeps seen left_since These a b → Keeps seen left_since Those a b
     keeps_fewer Those a b fewer kept = record {
@@ -83,11 +85,11 @@ module _ {D : Type 0} (seen : D → Seen) (left_since : D → Past) (tells : Boo
 
     pub folder_more : (a b c : D) → (seen a).moment ≤ (seen b).moment → KeepsFolder seen left_since is_primary folder a b → KeepsFolder seen left_since is_primary folder b c → KeepsFolder seen left_since is_primary folder a c
     folder_more a b c later first second = record {
-      stands = both_more folder tells (seen a).told (seen b).told (seen c).told One One One (laws.telling a) (laws.telling b) (λ x y z. normal_more is_primary (files_of x) (files_of y) (files_of z)) first.stands second.stands;
+      stands = both_more folder tells (seen a).told (seen b).told (seen c).told One One One (laws.telling a) (laws.telling b) (λ x y z. same_trans is_primary (files_of x) (files_of y) (files_of z)) first.stands second.stands;
       leaves = λ some t image le left.
           let between = second.leaves (some_too a b some) t image (omega (arith, le, later)) left in
           let before = first.leaves some t between.0 le between.1 in
-          (before.0, before.1, normal_more is_primary before.0 between.0 image before.2 between.2);
+          (before.0, before.1, same_trans is_primary before.0 between.0 image before.2 between.2);
       synced = both_more folder tells (seen a).told (seen b).told (seen c).told Synced Synced Synced (laws.telling a) (laws.telling b) (λ x y z one two synced. two (one synced)) first.synced second.synced;
     }
 

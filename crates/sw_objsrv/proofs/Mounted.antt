@@ -16,10 +16,10 @@ use Rattle.sw_message.specs.Message.{is_primary}
 use Rattle.sw_objsrv.specs.Folder.{AreInOrder, IsInOrder}
 use Rattle.sw_objsrv.specs.Mounting.{IsFolderOf, IsOther, MountCalls, Mounts, TidiesEach}
 use Rattle.sw_objsrv.specs.declared.fault.MountFault.{MountFault}
-use Rattle.sw_objsrv.proofs.MountedFloors.{HaveFloors, floors_all, order_normal}
 use Rattle.sw_objsrv.proofs.Keeping.{IsDisk, keeps_fewer, keeps_more}
+use Rattle.sw_objsrv.proofs.MountedFloors.{HaveFloors, floors_all, order_normal}
 use Rattle.sw_objsrv.proofs.Tidying.{Carries, carries_each, carries_listing, carries_more, carries_refused, keeps_each, listing_keeps}
-use Rattle.sw_objsrv.proofs.Telling.{both_and}
+use Rattle.sw_objsrv.proofs.Told.{both_and}
 
 module _ {D : Type 0} (seen : D → Seen) (left_since : D → Past) (cluster : ClusterModel) (device : ℕ) (tells : Bool) (laws : IsDisk seen left_since tells) where
   carried : (fault : Option MountFault) (a b : D) → MountCalls seen left_since cluster device fault a b → Carries seen left_since cluster device fault a b

@@ -1,5 +1,5 @@
 -- The floors of places whose folders are in order.
-use Rattle.std.proofs.Common.{◌≡◌, ◌≢◌, ◌⊎◌, inl, inr, ⊎_elim, ℕ, true≢false, Bool, Contains, List, [], ◌∷◌, ◌++◌, Option, Some, None, refl, sym, ◌∙◌, subst, arith}
+use Rattle.std.proofs.Common.{◌≡◌, ◌≢◌, ◌⊎◌, inl, inr, ⊎_elim, ℕ, true≢false, Bool, Contains, List, [], ◌∷◌, ◌++◌, Option, Some, None, refl, sym, ◌∙◌, subst}
 use Rattle.sw_disk.specs.Answers.{AreFolders, IsBusy, names_of}
 use Rattle.sw_disk.specs.Folder.{Change, File, Folder, files_of}
 use Rattle.sw_disk.specs.Runs.{IfTold, IsTelling, Past, Seen}
@@ -7,66 +7,38 @@ use Rattle.sw_disk.specs.State.{State}
 use Rattle.sw_hashpath.specs.Place.{IsPlace, PlaceModel, folder_of}
 use Rattle.sw_hashpath.specs.FileName.{file_name_text}
 use Rattle.sw_hashpath.specs.declared.file_name.FileName.{FileName}
-use Rattle.sw_hashdir.specs.Directory.{HasFloorAt, IsDirectory, IsFloor}
+use Rattle.sw_hashdir.specs.Directory.{HasFloorAt, IsFloor}
 use Rattle.sw_hashdir.specs.declared.floor.Floor.{Floor}
 use Rattle.sw_hashdir.specs.declared.floor.FloorKind.{FloorKind}
 use Rattle.sw_hashdir.specs.declared.floor.FloorKind.TheVariants as kind
 use Rattle.sw_suffix.specs.Table.{floor_at}
 use Rattle.sw_diskfile.specs.Changes.{IsAsBefore, IsMadeStable, Keeps}
 use Rattle.sw_diskfile.specs.Names.{IsDirectoryOf}
-use Rattle.sw_diskfile.specs.Normal.{AreObsolete, HaveOneNormalForm, IsNormalForm, IsTidied}
+use Rattle.sw_diskfile.specs.Normal.{HaveOneNormalForm, IsNormalForm, IsTidied}
 use Rattle.sw_diskfile.proofs.Directories.{same_or_other}
 use Rattle.sw_diskfile.proofs.Lists.{Contains-none}
-use Rattle.sw_diskfile.proofs.Normal.{none_left, none_obsolete}
 use Rattle.sw_ring.specs.Cluster.{ClusterModel}
 use Rattle.sw_message.specs.Message.{is_primary}
 use Rattle.sw_objsrv.specs.Folder.{AreInOrder, IsInOrder}
 use Rattle.sw_objsrv.specs.Mounting.{IsFolderOf}
+use Rattle.sw_objsrv.proofs.InOrder.{order_kept, order_tidied}
 use Rattle.sw_objsrv.proofs.Keeping.{IsDisk}
-use Rattle.sw_objsrv.proofs.Telling.{Both, after_told, told_too}
+use Rattle.sw_objsrv.proofs.Purging.{in_order_normal}
+use Rattle.sw_objsrv.proofs.Told.{Both, after_told, told_too}
 use Rattle.std.proofs.lemmas.List.Elements.{Contains-append_left, Contains-push, Contains-push_cases}
 
 -- ---- one folder
 
 -- it is in order once it was tidied
-tidied_order : (primary : Bool) (names : List FileName) (floor : Option Floor) (before after : Folder) → IsTidied primary before after → IsMadeStable before after → IsDirectoryOf before names → IsFloor names floor → IsInOrder primary floor after
-tidied_order primary names floor before after tidied stable directory is_floor =
-    let left = none_left primary tidied.obsolete (files_of before) tidied.are in
-    let later : IsDirectoryOf after left.names = subst (λ (files : List File). IsDirectory (names_of files) left.names) (sym tidied.removed) left.directory in
-    record {
-      nothing_pending = stable.0;
-      names = left.names;
-      directory = later;
-      none_obsolete = λ name. tidied.none left.names name later;
-      floor_is = tidied.floor names left.names floor directory later is_floor;
-    }
-
 pub tidied_told : (tells : Bool) (primary : Bool) (names : List FileName) (floor : Option Floor) (folder : List ℕ) (a b : Option State) → IsTelling tells a → IsTelling tells b → IsFloor names floor
     → IfTold a (λ before. IsDirectoryOf (before.folder folder) names) → Both folder a b (IsTidied primary) → Both folder a b IsMadeStable → IfTold b (λ after. IsInOrder primary floor (after.folder folder))
 tidied_told tells primary names floor folder a None one two is_floor directory tidied stable = tt
 tidied_told tells primary names floor folder None (Some y) one two is_floor directory tidied stable = absurd (true≢false (sym (told_too tells (Some y) None two one refl)))
-tidied_told tells primary names floor folder (Some x) (Some y) one two is_floor directory tidied stable = tidied_order primary names floor (x.folder folder) (y.folder folder) tidied stable directory is_floor
+tidied_told tells primary names floor folder (Some x) (Some y) one two is_floor directory tidied stable = order_tidied primary floor names (x.folder folder) (y.folder folder) directory is_floor tidied stable.0
 
 -- it is its own normal form, and so that of each folder with one normal form
 pub order_normal : (primary : Bool) (floor : Option Floor) (before after : Folder) → HaveOneNormalForm primary (files_of before) (files_of after) → IsInOrder primary floor after → IsNormalForm primary (files_of before) (files_of after) × (after.pending ≡ [])
-order_normal primary floor before after one order =
-    let none : AreObsolete primary (names_of (files_of after)) [] = record {
-      names = order.names;
-      directory = order.directory;
-      all = λ text. (λ has. absurd (Contains-none text has), λ is. absurd (order.none_obsolete is.0 is.1));
-      ascend = λ i j d lt within. absurd (omega arith);
-    } in
-    ((one (files_of after)).1 (none_obsolete primary (files_of after) none), order.nothing_pending)
-
--- it stays so where it is as before
-order_kept : (primary : Bool) (floor : Option Floor) (before after : Folder) → IsAsBefore before after → IsInOrder primary floor before → IsInOrder primary floor after
-order_kept primary floor before after same order = record {
-  nothing_pending = same.pending order.nothing_pending;
-  names = order.names;
-  directory = subst (λ (files : List File). IsDirectory (names_of files) order.names) (sym same.files) order.directory;
-  none_obsolete = order.none_obsolete;
-  floor_is = order.floor_is;
-}
+order_normal primary floor before after one order = ((one (files_of after)).1 (in_order_normal primary floor after order), order.nothing_pending)
 
 -- an empty one has no floor
 empty_order : (primary : Bool) (folder : Folder) → files_of folder ≡ [] → folder.pending ≡ [] → IsInOrder primary None folder

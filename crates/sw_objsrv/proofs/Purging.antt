@@ -10,7 +10,7 @@ use Rattle.sw_hashdir.specs.declared.floor.Floor.{Floor}
 use Rattle.sw_diskfile.specs.Changes.{IsFirstPart}
 use Rattle.sw_diskfile.specs.Normal.{AreObsolete, IsNormalForm}
 use Rattle.sw_diskfile.proofs.Lists.{Contains-none}
-use Rattle.sw_diskfile.proofs.Normal.{all_normal, none_left, none_obsolete, part_normal}
+use Rattle.sw_diskfile.proofs.Normal.{all_normal, none_obsolete, part_normal}
 use Rattle.sw_diskfile.proofs.Obsoletes.{obsolete_same, one_directory}
 use Rattle.sw_objsrv.specs.Folder.{IsInOrder}
 
@@ -48,14 +48,7 @@ module _ (primary : Bool) where
   ArePurging files changes = (changes ≡ []) ⊎ ((change : Change) × (obsolete : List (List ℕ)) × (changes ≡ change ∷ map Remove obsolete) × AreObsolete primary (names_of (changed change files)) obsolete)
 
   module _ (files : List File) (changes : List Change) (purging : ArePurging files changes) (tidy : IsTidy primary files) where
-    -- at the end nothing is obsolete
-    pub purged_tidy : IsTidy primary (all_changed changes files)
-    purged_tidy = ⊎_elim
-        (λ none. subst (λ (cs : List Change). IsTidy primary (all_changed cs files)) (sym none) tidy)
-        (λ purge. subst (λ (cs : List Change). IsTidy primary (all_changed cs files)) (sym purge.2) (none_left primary purge.1 (changed purge.0 files) purge.3))
-        purging
-
-    -- and some first part has the normal form of the start, or of the end
+    -- some first part has the normal form of the start, or of the end
     pub purged_parts : (part : List File) → IsFirstPart changes files part → IsNormalForm primary part files ⊎ IsNormalForm primary part (all_changed changes files)
     purged_parts part first = ⊎_elim
         (λ none. inl (at_start (first.1 ∙ ap (λ (cs : List Change). all_changed (take first.0 cs) files) none ∙ nothing first.0)))

@@ -24,11 +24,11 @@ use Rattle.sw_message.specs.Table.{Found, Handling, HandlesPutFrag, IsUncovered,
 use Rattle.sw_message.specs.declared.reply.Reply.TheVariants.{NoSpace, Synced}
 use Rattle.sw_objsrv.specs.Folder.{IsInOrder, StaysInOrder}
 use Rattle.sw_objsrv.specs.Handling.{Follows}
+use Rattle.sw_objsrv.proofs.AfterLook.{room_before}
 use Rattle.sw_objsrv.proofs.Found.{found_in, is_found, room_at}
-use Rattle.sw_objsrv.proofs.Looked.{room_before}
 use Rattle.sw_objsrv.proofs.Room.{AreWithin}
-use Rattle.sw_objsrv.proofs.RowParts.{stored_floor, stored_none, with_made}
-use Rattle.sw_objsrv.proofs.Told.{both_told, told_after, told_pair}
+use Rattle.sw_objsrv.proofs.RowForms.{stored_floor, stored_none, with_made}
+use Rattle.sw_objsrv.proofs.Told.{both_told, told_after, told_both}
 
 module _ (stamp index : ℕ) (names : List FileName) (uncovered : IsUncovered names stamp) (lacks : LacksEntry names stamp index) where
   -- the folder stays in order, with the same floor
@@ -53,7 +53,7 @@ module _ (stamp index : ℕ) (names : List FileName) (uncovered : IsUncovered na
       let Makes = λ (s t : State). MakesName (Data stamp index false) (s.folder folder) (t.folder folder) in
       let Stable = λ (s t : State). IsMadeStable (s.folder folder) (t.folder folder) in
       told_after tells (seen a).told (seen b).told tell_a tell_b (λ s t. Has s × Makes s t × Stable s t) (λ t. IsInOrder primary floor (t.folder folder))
-      (both_told (seen a).told (seen b).told Has Makes Stable (told_pair (seen a).told (λ s. IsInOrder primary floor (s.folder folder)) (λ s. IsDirectoryOf (s.folder folder) names) order directory) makes stable)
+      (both_told (seen a).told (seen b).told Has Makes Stable (told_both (seen a).told (λ s. IsInOrder primary floor (s.folder folder)) (λ s. IsDirectoryOf (s.folder folder) names) order directory) makes stable)
       (λ s t all. order_stored primary floor (s.folder folder) (t.folder folder) all.0.1 all.1 all.2 all.0.0)
 
   -- ---- the rows of the table

@@ -16,7 +16,7 @@ use Rattle.sw_message.specs.declared.reply.Reply.{Reply}
 use Rattle.sw_objsrv.specs.Folder.{AreInOrder}
 use Rattle.sw_objsrv.specs.Handling.{AreListed, AreKept, IsAnswer, folders_of}
 use Rattle.sw_objsrv.specs.Node.{IsRefusal}
-use Rattle.sw_objsrv.proofs.TableFloors.{are_floors}
+use Rattle.sw_objsrv.proofs.Floors.{are_floors}
 
 -- ---- the answers, told by other words for the same folders and floors
 

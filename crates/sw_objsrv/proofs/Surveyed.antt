@@ -15,7 +15,7 @@ use Rattle.sw_hashpath.specs.Place.{IsPlace, PlaceModel, folder_of, part_of}
 use Rattle.sw_suffix.specs.Table.{same_place}
 use Rattle.sw_diskfile.proofs.Lists.{Contains-map, keeps, kept, mapped}
 use Rattle.sw_message.specs.Survey.{AreParts, ArePlaces}
-use Rattle.sw_objsrv.proofs.Read.{AreRead}
+use Rattle.sw_objsrv.proofs.ReadTexts.{AreRead}
 
 abbrev pub part_in : PlaceModel → ℕ
 part_in place = place.part

@@ -1,4 +1,4 @@
-use Rattle.sw_objsrv.proofs.SameFloors.{floors_again}
+use Rattle.sw_objsrv.proofs.Floors.{floors_again}
 use Rattle.sw_objsrv.proofs.changing.make_and_purge.Goals as goal
 
 pub returns-clause-floors : goal.returns-clause-floors

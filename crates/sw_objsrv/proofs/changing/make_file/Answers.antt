@@ -2,8 +2,8 @@ use Rattle.std.proofs.Common.{true, false, subst, string_bytes}
 use Rattle.sw_hashpath.specs.FileName.{IsFileName}
 use Rattle.sw_hashpath.specs.declared.file_name.FileName.TheVariants.{Data, Tombstone}
 use Rattle.sw_objsrv.specs.Changing.{IsNew}
-use Rattle.sw_objsrv.proofs.Entries.{plain_there}
-use Rattle.sw_objsrv.proofs.Told.{has_file, lacks_file}
+use Rattle.sw_objsrv.proofs.AfterLook.{has_file, lacks_file}
+use Rattle.sw_objsrv.proofs.Found.{plain_there}
 use Rattle.sw_objsrv.proofs.changing.make_file.Goals as goal
 
 pub commit-requires-clause-there : goal.commit-requires-clause-there

@@ -14,8 +14,10 @@ use Rattle.sw_diskfile.specs.Names.{IsDirectoryOf}
 use Rattle.sw_diskfile.specs.Normal.{AreObsolete, IsTidied}
 use Rattle.sw_objsrv.specs.Changing.{make_calls}
 use Rattle.sw_objsrv.specs.Folder.{IsInOrder}
-use Rattle.sw_objsrv.proofs.Orders.{order_purged}
-use Rattle.sw_objsrv.proofs.Told.{directory_made, ok_from, told_after}
+use Rattle.sw_objsrv.proofs.AfterLook.{directory_made}
+use Rattle.sw_objsrv.proofs.Ended.{ok_from}
+use Rattle.sw_objsrv.proofs.InOrder.{order_purged}
+use Rattle.sw_objsrv.proofs.Told.{told_after}
 use Rattle.sw_objsrv.proofs.changing.make_files.Goals as goal
 
 pub returns-in_err-make_file-clause-runs : goal.returns-in_err-make_file-clause-runs

@@ -6,8 +6,7 @@ use Rattle.sw_suffix.specs.Table.{floor_at}
 use Rattle.sw_message.specs.Table.{HandlesDelete}
 use Rattle.sw_message.specs.declared.reply.Reply.TheVariants.{Deleted, Superseded}
 use Rattle.sw_objsrv.specs.Changing.{MakesAndPurges}
-use Rattle.sw_objsrv.proofs.AfterLook.{directory_looked, handles_after, handles_at_once, keeps_after, order_looked}
-use Rattle.sw_objsrv.proofs.Rows.{delete_row}
+use Rattle.sw_objsrv.proofs.AfterLook.{delete_row, directory_looked, handles_after, handles_at_once, keeps_after, order_looked}
 use Rattle.sw_objsrv.proofs.deleting.delete.Goals as goal
 
 pub returns-in-Some-clause-handles : goal.returns-in-Some-clause-handles

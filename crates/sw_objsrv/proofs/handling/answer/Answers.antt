@@ -6,8 +6,9 @@ use Rattle.sw_diskfile.proofs.Outcomes.{on_ok}
 use Rattle.sw_ring.specs.Cluster.{ClusterModel, KeepsRules}
 use Rattle.sw_message.specs.Message.{IsPlaceOf, is_primary, place_in}
 use Rattle.sw_message.specs.declared.message.Msg.{Msg}
-use Rattle.sw_objsrv.proofs.Order.{order_at_place, order_kept}
-use Rattle.sw_objsrv.proofs.Places.{folder_short}
+use Rattle.sw_objsrv.proofs.InOrder.{orders_stay}
+use Rattle.sw_objsrv.proofs.PlaceFolders.{folder_short}
+use Rattle.sw_objsrv.proofs.PlaceStep.{order_at_place}
 use Rattle.sw_objsrv.proofs.handling.answer.Goals as goal
 
 short : (cluster : ClusterModel) (message : Msg) (place : PlaceModel) → place_in message ≡ Some place → KeepsRules cluster → IsPlaceOf cluster (place_in message) → length (folder_of place) ≤ 64
@@ -81,19 +82,19 @@ returns-in-Fetch-clause-answered g c = rw c.in-Fetch.is c.fetch.ensures.handles
 pub returns-in-Ask-clause-order : goal.returns-in-Ask-clause-order
 returns-in-Ask-clause-order g c =
     on_ok c.ask.result _ (λ _.
-    order_kept g.D.Disk.seen g.D.Disk.left_since g.D.Disk.tells g.met.D.Disk.telling c.args.cluster.now c.args.device c.args.floors.now.floors c.args.floors.now.floors c.args.disk.now c.ask.new.disk (λ place. refl) c.ask.ensures.kept)
+    orders_stay g.D.Disk.seen g.D.Disk.left_since g.D.Disk.tells g.met.D.Disk.telling c.args.cluster.now c.args.device c.args.floors.now.floors c.args.floors.now.floors c.args.disk.now c.ask.new.disk (λ place. refl) c.ask.ensures.kept)
 
 pub returns-in-Fetch-clause-order : goal.returns-in-Fetch-clause-order
 returns-in-Fetch-clause-order g c =
     on_ok c.fetch.result _ (λ _.
-    order_kept g.D.Disk.seen g.D.Disk.left_since g.D.Disk.tells g.met.D.Disk.telling c.args.cluster.now c.args.device c.args.floors.now.floors c.args.floors.now.floors c.args.disk.now c.fetch.new.disk (λ place. refl) c.fetch.ensures.kept)
+    orders_stay g.D.Disk.seen g.D.Disk.left_since g.D.Disk.tells g.met.D.Disk.telling c.args.cluster.now c.args.device c.args.floors.now.floors c.args.floors.now.floors c.args.disk.now c.fetch.new.disk (λ place. refl) c.fetch.ensures.kept)
 
 pub returns-in-Parts-clause-order : goal.returns-in-Parts-clause-order
 returns-in-Parts-clause-order g c =
     on_ok c.parts.result _ (λ _.
-    order_kept g.D.Disk.seen g.D.Disk.left_since g.D.Disk.tells g.met.D.Disk.telling c.args.cluster.now c.args.device c.args.floors.now.floors c.args.floors.now.floors c.args.disk.now c.parts.new.disk (λ place. refl) c.parts.ensures.kept)
+    orders_stay g.D.Disk.seen g.D.Disk.left_since g.D.Disk.tells g.met.D.Disk.telling c.args.cluster.now c.args.device c.args.floors.now.floors c.args.floors.now.floors c.args.disk.now c.parts.new.disk (λ place. refl) c.parts.ensures.kept)
 
 pub returns-in-Places-clause-order : goal.returns-in-Places-clause-order
 returns-in-Places-clause-order g c =
     on_ok c.places.result _ (λ _.
-    order_kept g.D.Disk.seen g.D.Disk.left_since g.D.Disk.tells g.met.D.Disk.telling c.args.cluster.now c.args.device c.args.floors.now.floors c.args.floors.now.floors c.args.disk.now c.places.new.disk (λ place. refl) c.places.ensures.kept)
+    orders_stay g.D.Disk.seen g.D.Disk.left_since g.D.Disk.tells g.met.D.Disk.telling c.args.cluster.now c.args.device c.args.floors.now.floors c.args.floors.now.floors c.args.disk.now c.places.new.disk (λ place. refl) c.places.ensures.kept)

@@ -9,9 +9,9 @@ use Rattle.sw_suffix.specs.Table.{SuffixTableModel}
 use Rattle.sw_diskfile.proofs.Lists.{Contains-cases, Contains-none}
 use Rattle.sw_objsrv.specs.Mounting.{TidiesEach, fault_of}
 use Rattle.sw_objsrv.specs.declared.fault.MountFault.{MountFault}
-use Rattle.sw_objsrv.proofs.MountedFloors.{HaveFloors, floors_more, floors_none}
 use Rattle.sw_objsrv.proofs.Keeping.{IsDisk}
 use Rattle.sw_objsrv.proofs.Mounted.{all_in_order, mounts}
+use Rattle.sw_objsrv.proofs.MountedFloors.{HaveFloors, floors_more, floors_none}
 use Rattle.sw_objsrv.proofs.Tidying.{each_more, each_stopped, keeps_each}
 use Rattle.sw_objsrv.proofs.mounting.mount_places.Given.{Over}
 use Rattle.sw_objsrv.proofs.mounting.mount_places.Goals as goal

@@ -7,10 +7,9 @@ use Rattle.sw_message.specs.Table.{HandlesFetch}
 use Rattle.sw_message.specs.declared.checking.Unread.TheVariants as unread
 use Rattle.sw_message.specs.declared.reply.Reply.TheVariants.{Fragment, Gone, Spoiled}
 use Rattle.sw_message.specs.declared.spoil.Spoil.{Spoil}
-use Rattle.sw_objsrv.proofs.AfterLook.{directory_looked, handles_at_once, keeps_after}
+use Rattle.sw_objsrv.proofs.AfterLook.{directory_looked, handles_at_once, has_file, keeps_after}
 use Rattle.sw_objsrv.proofs.Fetched.{fetched, stops_read, wants_read}
-use Rattle.sw_objsrv.proofs.Entries.{entry_there}
-use Rattle.sw_objsrv.proofs.Told.{has_file}
+use Rattle.sw_hashdir.specs.Laws.{entry_there}
 use Rattle.sw_objsrv.proofs.reading.fetch.Goals as goal
 
 one_unread : (a b : Spoil) → unread.Spoiled a ≡ unread.Spoiled b → a ≡ b

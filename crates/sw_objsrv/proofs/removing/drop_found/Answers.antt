@@ -7,10 +7,11 @@ use Rattle.sw_suffix.specs.Table.{floor_at}
 use Rattle.sw_diskfile.specs.Changes.{IfBothTold, IsMadeStable}
 use Rattle.sw_diskfile.specs.Names.{DropsName}
 use Rattle.sw_objsrv.specs.Changing.{LeavesOrder}
-use Rattle.sw_objsrv.proofs.Entries.{entry_there}
-use Rattle.sw_objsrv.proofs.Orders.{order_left}
-use Rattle.sw_objsrv.proofs.SameFloors.{floors_again}
-use Rattle.sw_objsrv.proofs.Told.{has_file, ok_from}
+use Rattle.sw_objsrv.proofs.AfterLook.{has_file}
+use Rattle.sw_objsrv.proofs.Ended.{ok_from}
+use Rattle.sw_objsrv.proofs.Floors.{floors_again}
+use Rattle.sw_hashdir.specs.Laws.{entry_there}
+use Rattle.sw_objsrv.proofs.InOrder.{order_left}
 use Rattle.sw_objsrv.proofs.removing.drop_found.Goals as goal
 
 pub drop_entry-change-requires-clause-index : goal.drop_entry-change-requires-clause-index

@@ -6,9 +6,8 @@ use Rattle.sw_message.specs.Table.{HandlesRemove}
 use Rattle.sw_message.specs.declared.reply.Reply.TheVariants.{Kept, Missing, Removed}
 use Rattle.sw_objsrv.specs.Changing.{Drops, LeavesOrder}
 use Rattle.sw_objsrv.specs.Folder.{StaysInOrder}
-use Rattle.sw_objsrv.proofs.AfterLook.{directory_looked, handles_after, handles_at_once, keeps_after, order_looked}
-use Rattle.sw_objsrv.proofs.Orders.{order_removed}
-use Rattle.sw_objsrv.proofs.Rows.{remove_row}
+use Rattle.sw_objsrv.proofs.AfterLook.{directory_looked, handles_after, handles_at_once, keeps_after, order_looked, remove_row}
+use Rattle.sw_objsrv.proofs.InOrder.{order_removed}
 use Rattle.sw_objsrv.proofs.removing.remove.Goals as goal
 
 pub returns-then-is_primary-clause-handles : goal.returns-then-is_primary-clause-handles

@@ -2,7 +2,7 @@ use Rattle.std.proofs.Common.{ℕ, ◌==◌, ◌^◌, ◌<◌, sym, ◌∙◌, a
 use Rattle.std.specs.List.{list_any}
 use Rattle.std.specs.Option.{is_some}
 use Rattle.sw_ring.specs.Cluster.{column_of}
-use Rattle.sw_objsrv.proofs.Places.{part_within}
+use Rattle.sw_objsrv.proofs.PlaceFolders.{part_within}
 use Rattle.sw_objsrv.proofs.Roles.{position_any}
 use Rattle.sw_objsrv.proofs.role.is_primary.Goals as goal
 

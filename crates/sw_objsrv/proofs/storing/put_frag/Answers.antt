@@ -15,12 +15,11 @@ use Rattle.sw_message.specs.Table.{HandlesPutFrag, plain_text}
 use Rattle.sw_message.specs.declared.checking.Unread.TheVariants as unread
 use Rattle.sw_message.specs.declared.reply.Reply.TheVariants.{Spoiled, Superseded, Synced}
 use Rattle.sw_message.specs.declared.spoil.Spoil.{Spoil}
-use Rattle.sw_objsrv.proofs.AfterLook.{directory_looked, handles_at_once, keeps_after, order_looked}
-use Rattle.sw_objsrv.proofs.BothTold.{told_each}
+use Rattle.sw_objsrv.proofs.AfterLook.{directory_looked, handles_at_once, keeps_after, lacks_file, order_looked}
 use Rattle.sw_objsrv.proofs.Found.{entry_at}
-use Rattle.sw_objsrv.proofs.RowParts.{archive_name}
+use Rattle.sw_objsrv.proofs.RowForms.{archive_name}
 use Rattle.sw_objsrv.proofs.Stored.{stays_stored, stored, stored_refused}
-use Rattle.sw_objsrv.proofs.Told.{lacks_file}
+use Rattle.sw_objsrv.proofs.Told.{told_each}
 use Rattle.sw_objsrv.proofs.storing.put_frag.Goals as goal
 
 -- ---- whether an entry is there

@@ -1,7 +1,7 @@
 use Rattle.std.proofs.Common.{◌≡◌, List, Vec, Global, Some, string_bytes, sym, ap, ◌∙◌, arith}
 use Rattle.std.proofs.lemmas.Option.{none-some}
 use Rattle.sw_hashpath.specs.Place.{IsPlace, PlaceModel, folder_of}
-use Rattle.sw_objsrv.proofs.Read.{read_here, read_none, read_past, read_whole}
+use Rattle.sw_objsrv.proofs.ReadTexts.{read_here, read_none, read_past, read_whole}
 use Rattle.sw_objsrv.proofs.surveying.places_in.Goals as goal
 use Rattle.sw_objsrv.proofs.surveying.places_in.Goals.{in-Some+in_ok-push, in_default}
 

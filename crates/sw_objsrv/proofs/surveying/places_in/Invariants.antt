@@ -1,6 +1,6 @@
 use Rattle.std.proofs.Common.{map, string_bytes, take}
 use Rattle.sw_hashpath.specs.Place.{IsPlace, folder_of}
-use Rattle.sw_objsrv.proofs.Read.{AreRead}
+use Rattle.sw_objsrv.proofs.ReadTexts.{AreRead}
 use Rattle.sw_objsrv.proofs.surveying.places_in.Given as goal
 
 abbrev pub invariant-loop-folder : goal.invariant-loop-folder
