@@ -1,5 +1,13 @@
+pub mod Floors
+pub mod Learnt
 pub mod Message
+pub mod Miss
+pub mod Running
 pub mod Spoil
 pub mod Step
 pub mod Survey
 pub mod Table
+pub mod Targets
+pub mod Tickets
+pub mod Transcript
+pub mod Warrant

@@ -2,6 +2,8 @@
 
 ghost use Rattle.std.specs.Prelude.{◌≡◌, ℕ, List};
 ghost use Rattle.sw_ring.specs.Cluster.{ClusterModel};
+ghost use Rattle.sw_hashdir.specs.declared.floor.Floor.{Floor as AFloor};
+ghost use Rattle.sw_message.specs.Floors.{IsHighest, highest};
 ghost use Rattle.sw_message.specs.Step.{Folders, IsNodeStep};
 ghost use Rattle.sw_message.specs.declared.message.Msg.{Msg as AMsg};
 ghost use Rattle.sw_message.specs.declared.reply.Reply.{Reply as AReply};
@@ -17,3 +19,8 @@ pub fn step_law()
 {
     fault_law();
 }
+
+/// The greatest of some floors is one of them, and none is above it.
+pub fn highest_law()
+    ensures { (floors : List AFloor) → IsHighest floors (highest floors) }
+{}

@@ -1,5 +1,9 @@
 //! Why a device did not do what it was asked.
 
+ghost use Rattle.std.specs.Prelude.{◌≡◌};
+ghost use Rattle.sw_message.specs.Miss.{miss_of};
+
+use crate::reply::Reply;
 use crate::spoil::Spoil;
 
 /// Why a device did not do what it was asked.
@@ -21,4 +25,22 @@ pub enum Miss {
     Gone,
     /// The reply is of a kind that does not answer the message.
     Odd,
+}
+
+impl Miss {
+    /// What a reply is a miss of that does not answer its message: a refusal that each message can have, or else an odd one.
+    pub fn of(reply: &Reply) -> Miss
+        ensures { result ≡ miss_of reply.now }
+    {
+        match reply {
+            Reply::DiskFault => Miss::DiskFault,
+            Reply::NoSpace { need, free } => Miss::NoSpace {
+                need: *need,
+                free: *free,
+            },
+            Reply::NoMemory => Miss::NoMemory,
+            Reply::Spoiled(spoil) => Miss::Spoiled(*spoil),
+            _ => Miss::Odd,
+        }
+    }
 }
