@@ -1,5 +1,6 @@
 pub mod Ascending
 pub mod Directories
+mod Going
 mod Handlings
 pub mod Spoils
 mod Steps

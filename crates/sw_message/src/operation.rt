@@ -15,6 +15,7 @@ use sw_types::NoMemory;
 pub trait Operation {
     /// What it was begun with, and the cluster among that.
     ghost Begun: { Type 0 };
+
     ghost cluster: { Begun → ClusterModel };
 
     /// What it started itself, if it is a put or a delete.

@@ -15,7 +15,7 @@ pub fn run<P: Operation, L: Link>(op: &mut P, link: &mut L) -> Result<(), NoMemo
     ensures runs { (more : List Step) × AreCalls L.calls L.losses link.old more link.new × ((begun : P.Begun) (past : List Step) → P.stands op.old begun past →
         MayRun (P.cluster begun) (P.own begun) past (L.cluster link.old) (L.learnt link.old) →
         P.stands op.new begun (more ++ past) × MayRun (P.cluster begun) (P.own begun) (more ++ past) (L.cluster link.new) (L.learnt link.new)
-            × OnOk result (P.machine begun (more ++ past) Over)) }
+        × OnOk result (P.machine begun (more ++ past) Over)) }
     ensures ended { OnOk result (P.has_ended op.new ≡ true) }
     ensures cluster { L.cluster link.new ≡ L.cluster link.old }
 {
