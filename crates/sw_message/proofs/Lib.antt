@@ -1,7 +1,10 @@
 pub mod Ascending
+mod Ascents
 pub mod Directories
 mod Going
 mod Handlings
+pub mod Highest
 pub mod Spoils
 mod Steps
 mod Surveys
+mod Transcripts

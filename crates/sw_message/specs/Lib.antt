@@ -1,3 +1,4 @@
+pub mod FloorLaws
 pub mod Floors
 pub mod Learnt
 pub mod Message

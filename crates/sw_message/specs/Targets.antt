@@ -1,5 +1,5 @@
 -- Targets in order.
-use Rattle.std.specs.Prelude.{ℕ, ◌==◌, Bool, ◌&&◌, ◌||◌, if◌then◌else◌, nat_lt, List, [], ◌∷◌}
+use Rattle.std.specs.Prelude.{◌==◌, Bool, ◌&&◌, ◌||◌, if◌then◌else◌, nat_lt, List, [], ◌∷◌}
 use Rattle.sw_message.specs.declared.target.Target.{Target}
 
 -- by index, and of one index by device

@@ -12,6 +12,7 @@ pub fn primaries(alloc: Global, cluster: &Cluster, part: u32) -> Result<Vec<u16>
     requires { part < 2 ^ cluster.now.part_power }
     ensures { IfOk result (λ devices. devices.items ≡ column_of cluster.now part) }
 {
+    prove!(part < 1 << cluster.part_power());
     let policy = cluster.policy();
     let mut devices = Vec::new(alloc);
     for index in 0..policy.k() + policy.m() {
