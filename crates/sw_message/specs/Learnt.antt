@@ -9,7 +9,6 @@ use Rattle.sw_message.specs.Transcript.{Gave, Step, Told}
 use Rattle.sw_message.specs.declared.message.Msg.{Msg}
 use Rattle.sw_message.specs.declared.reply.Reply.{Reply}
 use Rattle.sw_message.specs.declared.reply.Reply.TheVariants as reply
-use Rattle.sw_message.specs.declared.sent.Sent.{Sent}
 
 -- a put that was started, and a delete
 pub record Booked : Type 0 where

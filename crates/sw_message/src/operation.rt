@@ -13,9 +13,10 @@ use sw_types::NoMemory;
 
 /// An operation hands out messages to devices and takes their replies, until it has ended.
 pub trait Operation {
-    /// What it was begun with, and the cluster among that.
+    /// What it was begun with.
     ghost Begun: { Type 0 };
 
+    /// The cluster among that.
     ghost cluster: { Begun → ClusterModel };
 
     /// What it started itself, if it is a put or a delete.

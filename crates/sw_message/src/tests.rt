@@ -1,7 +1,9 @@
-//! Archives that are asked for and refused, and the numbers and places that messages and answers tell.
+//! Archives that are asked for and refused, what messages and replies tell, tickets, and targets in order.
 
 use crate::Foreign::{Code, Index, Name as OfName, Object as OfObject, Stamp as OfStamp};
-use crate::{Foreign, Msg, Spoil, Unread, read_asked};
+use crate::{
+    Foreign, Miss, Msg, Reply, Spoil, Target, Tickets, Unread, primaries, read_asked, sort_targets,
+};
 use std::alloc::Global;
 use std::test::Fail;
 use sw_archive::{Archive, ArchiveFault, make_archive};
@@ -149,5 +151,64 @@ fn numbers_the_differences(rt: HostRuntime) {
     let all: [Foreign; 5] = [OfName, OfStamp, Index, Code, OfObject];
     for (foreign, number) in all.into_iter().zip(1u8..) {
         assert_eq!(rt; foreign.number(), number);
+    }
+}
+
+#[test]
+fn closes_each_ticket_once(rt: HostRuntime) -> Result<(), Fail> {
+    let mut tickets = Tickets::new(rt.alloc());
+    assert_eq!(rt; tickets.is_waiting(), false);
+    assert_eq!(rt; tickets.hand_out()?, 0);
+    assert_eq!(rt; tickets.hand_out()?, 1);
+    let cases = [
+        (1, true, true),
+        (1, false, true),
+        (2, false, true),
+        (0, true, false),
+        (0, false, false),
+    ];
+    for (ticket, was_open, is_waiting) in cases {
+        assert_eq!(rt; tickets.close(ticket), was_open);
+        assert_eq!(rt; tickets.is_waiting(), is_waiting);
+    }
+    assert_eq!(rt; tickets.count(), 2);
+    Ok(())
+}
+
+#[test]
+fn puts_targets_in_order(rt: HostRuntime) {
+    let mut targets = [(2, 0), (0, 3), (1, 7), (0, 1)].map(|(index, device)| Target {
+        index,
+        device,
+    });
+    sort_targets(&mut targets);
+    let sorted = [(0, 1), (0, 3), (1, 7), (2, 0)].map(|(index, device)| Target { index, device });
+    assert_eq!(rt; targets, sorted);
+}
+
+#[test]
+fn tells_primaries(rt: HostRuntime) -> Result<(), Fail> {
+    let cluster = Cluster::read(rt.alloc(), built_in())?;
+    assert_eq!(rt;
+        primaries(rt.alloc(), &cluster, 0)?.as_slice(),
+        [0, 1, 2].as_slice()
+    );
+    Ok(())
+}
+
+#[test]
+fn tells_what_a_reply_is_a_miss_of(rt: HostRuntime) {
+    let (need, free) = (103, 102);
+    let spoil = Spoil::Foreign(OfStamp);
+    let cases = [
+        (Reply::DiskFault, Miss::DiskFault),
+        (Reply::NoSpace { need, free }, Miss::NoSpace { need, free }),
+        (Reply::NoMemory, Miss::NoMemory),
+        (Reply::Spoiled(spoil), Miss::Spoiled(spoil)),
+        (Reply::Missing, Miss::Odd),
+        (Reply::Synced, Miss::Odd),
+    ];
+    for (reply, miss) in &cases {
+        assert_eq!(rt; Miss::of(reply), *miss);
     }
 }
