@@ -1,0 +1,126 @@
+//! The object that the messages are about.
+
+ghost use Rattle.std.specs.Prelude.{◌≤◌};
+
+use crate::server::Server;
+use anyhow::{Context, Result, ensure};
+use std::alloc::Global;
+use std::fmt;
+use sw_archive::make_archive;
+use sw_hashpath::Place;
+use sw_message::{Msg, Reply};
+use sw_ring::Cluster;
+use sw_types::{Bytes, Head, Name, Object, Policy, Stamp};
+
+/// An archive of it has so many bytes more than its payload.
+pub const OVERHEAD: usize = 101;
+
+/// The stamp so many units after 1000000000.00000.
+pub fn stamp(later: u64) -> Result<Stamp> {
+    Stamp::make(100_000_000_000_000u64.saturating_add(later)).context("no such stamp")
+}
+
+/// The name of the object.
+pub fn name(alloc: Global) -> Result<Name> {
+    Ok(Name::make(alloc, b"a", b"c", b"o")?)
+}
+
+/// Its place.
+pub fn place(alloc: Global, cluster: &Cluster) -> Result<Place> {
+    Ok(cluster.place(alloc, &name(alloc)?)?)
+}
+
+/// The archive of an index of a body that is put under this name and policy, at the stamp so many units later.
+pub fn archive(
+    alloc: Global,
+    policy: &Policy,
+    name: &Name,
+    later: u64,
+    index: u32,
+    body: &[u8],
+) -> Result<Bytes> {
+    ensure!(
+        index < policy.k().saturating_add(policy.m()),
+        "no such index"
+    );
+    let head = Head::make(alloc, b"application/octet-stream", &[])?;
+    let body = Bytes::from_slice(alloc, body)?;
+    let object = Object::make(head, body)
+        .ok()
+        .context("the body is too long")?;
+    Ok(make_archive(alloc, policy, stamp(later)?, name, &object, index)?)
+}
+
+/// A message about the object, with the number of units by which its stamp is later, and with an index.
+#[derive(Clone, Copy, Debug)]
+pub enum Request {
+    PutFrag(u64, u32),
+    Commit(u64, u32),
+    Delete(u64),
+    Ask,
+    Fetch(u64, u32),
+    Remove(u64, u32),
+}
+
+impl fmt::Display for Request {
+    fn fmt<W: fmt::Write>(&self, f: &mut fmt::Formatter<W>) -> fmt::Result {
+        f.write_str(match self {
+            Request::PutFrag(..) => "put",
+            Request::Commit(..) => "commit",
+            Request::Delete(_) => "delete",
+            Request::Ask => "ask",
+            Request::Fetch(..) => "fetch",
+            Request::Remove(..) => "remove",
+        })
+    }
+}
+
+impl Request {
+    /// The message. The body of the object is `abc`.
+    pub fn message(self, alloc: Global, cluster: &Cluster) -> Result<Msg> {
+        let place = place(alloc, cluster)?;
+        Ok(match self {
+            Request::PutFrag(later, index) => {
+                let name = name(alloc)?;
+                let bytes = archive(alloc, cluster.policy(), &name, later, index, b"abc")?;
+                put_frag(place, stamp(later)?, index, bytes)
+            }
+            Request::Commit(later, index) => Msg::Commit {
+                place,
+                stamp: stamp(later)?,
+                index,
+            },
+            Request::Delete(later) => Msg::Delete {
+                place,
+                stamp: stamp(later)?,
+            },
+            Request::Ask => Msg::Ask { place },
+            Request::Fetch(later, index) => Msg::Fetch {
+                place,
+                stamp: stamp(later)?,
+                index,
+            },
+            Request::Remove(later, index) => Msg::Remove {
+                place,
+                stamp: stamp(later)?,
+                index,
+            },
+        })
+    }
+
+    /// What a server answers.
+    pub fn send(self, alloc: Global, server: &mut Server) -> Result<Reply> {
+        let message = self.message(alloc, server.cluster())?;
+        server.answer(alloc, &message)
+    }
+}
+
+/// The message to store these bytes.
+pub fn put_frag(place: Place, stamp: Stamp, index: u32, bytes: Bytes) -> Msg {
+    Msg::PutFrag {
+        place,
+        stamp,
+        index,
+        bytes,
+    }
+}
