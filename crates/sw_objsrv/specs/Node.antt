@@ -100,5 +100,5 @@ abbrev pub HandlesWhenMounted : {D : Type 0} → (D → Seen) → (D → Past) �
 HandlesWhenMounted {D} seen left_since cluster message reply old new =
     ((old.is_due ≡ false) × Handled seen left_since cluster message reply old new)
     ⊎ ((old.is_due ≡ true) × (
-    ((between : NodeModel D) × Remounts seen left_since cluster None old between × Handled seen left_since cluster message reply between new)
+    ((between : NodeModel D) × Remounts seen left_since cluster None old between × IsNode cluster seen between × Handled seen left_since cluster message reply between new)
     ⊎ ((reason : MountFault) × Remounts seen left_since cluster (Some reason) old new × (reply ≡ mount_reply reason))))
