@@ -1,18 +1,19 @@
 -- How the handling of a message ended: its answer, and the count of faults.
-use Rattle.std.proofs.Common.{◌≡◌, ◌≢◌, inl, inr, ℕ, Bool, true, false, Contains, List, [], ◌∷◌, Some, Result, Ok, Err, OnOk, refl, ap, subst}
+use Rattle.std.proofs.Common.{◌≡◌, ◌≢◌, inl, inr, ℕ, Bool, true, false, Contains, List, [], ◌∷◌, Some, Result, Ok, Err, OnOk, refl, sym, ap, subst}
 use Rattle.sw_words.specs.Counts.{one_more}
-use Rattle.sw_disk.specs.Calls.{Call, ListFolders, ListNames}
+use Rattle.sw_disk.specs.Calls.{Call, ListNames}
 use Rattle.sw_disk.specs.Runs.{Past, Seen}
 use Rattle.sw_disk.specs.declared.refusal.DiskRefusal.{DiskRefusal}
 use Rattle.sw_disk.specs.declared.refusal.DiskRefusal.TheVariants as refusal
 use Rattle.sw_hashpath.specs.Place.{PlaceModel}
 use Rattle.sw_hashdir.specs.declared.floor.Floor.{Floor}
 use Rattle.sw_diskfile.specs.Names.{RunsUnlessMemory}
+use Rattle.sw_message.specs.Survey.{survey_calls}
 use Rattle.sw_message.specs.Table.{Found, Handling}
 use Rattle.sw_message.specs.declared.message.Msg.{Msg}
 use Rattle.sw_message.specs.declared.reply.Reply.{Reply}
 use Rattle.sw_message.specs.declared.reply.Reply.TheVariants.{DiskFault}
-use Rattle.sw_objsrv.specs.Handling.{AreKept, Handles, HandlesSurvey, IsAnswer, StopsAt, reply_of}
+use Rattle.sw_objsrv.specs.Handling.{AreKept, Handles, HandlesSurvey, IsAnswer, StopsAt, StopsSurvey, reply_of}
 use Rattle.sw_objsrv.proofs.SurveyStep.{survey_answers}
 
 abbrev pub Ended : Seen → Seen → Result Reply DiskRefusal → Type 0
@@ -42,14 +43,13 @@ module _ {D : Type 0} (seen : D → Seen) (left_since : D → Past) (a b : D) wh
   placed_ended folder Row (Err refusal.NoMemory) (inl early) = memory_quiet (ListNames folder ∷ []) early
   placed_ended folder Row (Err refusal.NoMemory) (inr follows) = memory_quiet follows.runs.0 follows.runs.3
 
+  ended_survey : (calls : List Call) (reason : DiskRefusal) → StopsSurvey seen left_since calls reason a b → Ended (seen a) (seen b) (Err reason)
+  ended_survey [] reason want = subst (λ (r : DiskRefusal). Ended (seen a) (seen b) (Err r)) (sym want.0) (ap (λ (disk : D). (seen disk).faults) want.1)
+  ended_survey (call ∷ calls) reason stopped = stopped_ended (call ∷ calls) (Err reason) stopped
+
   pub survey_ended : (power : ℕ) (floors : List (PlaceModel × Floor)) (message : Msg) (result : Result Reply DiskRefusal) → HandlesSurvey seen left_since power floors message result a b → Ended (seen a) (seen b) result
   survey_ended power floors message (Ok reply) surveys = ((survey_answers power (Contains surveys.listed) (AreKept power floors) message reply surveys.surveyed).0, surveys.runs.quiet (λ is. cc))
-  survey_ended power floors message (Err refusal.Failed) (inl early) = early.failed refl
-  survey_ended power floors message (Err refusal.Failed) (inr want) = absurd (let is = want.0 in cc)
-  survey_ended power floors message (Err (refusal.Full need free)) (inl early) = absurd early
-  survey_ended power floors message (Err (refusal.Full need free)) (inr want) = absurd (let is = want.0 in cc)
-  survey_ended power floors message (Err refusal.NoMemory) (inl early) = memory_quiet (ListFolders ∷ []) early
-  survey_ended power floors message (Err refusal.NoMemory) (inr want) = ap (λ (disk : D). (seen disk).faults) want.1
+  survey_ended power floors message (Err reason) stopped = ended_survey (survey_calls message) reason stopped
 
 -- ---- the reply
 

@@ -1,7 +1,7 @@
 -- What a mounted node is after it handled a message.
-use Rattle.std.proofs.Common.{◌≡◌, ◌≢◌, inl, inr, ℕ, ◌≤◌, Bool, false, List, IfOk, OnErr, OnOk, Option, Some, None, Result, Ok, Err, refl, sym, subst, ◌∙◌, []}
+use Rattle.std.proofs.Common.{◌≡◌, ◌≢◌, inl, inr, ℕ, ◌≤◌, Bool, false, List, IfOk, OnErr, OnOk, Option, Some, None, Result, Ok, Err, refl, sym, ap, subst, ◌∙◌, [], ◌∷◌}
 use Rattle.std.specs.Prelude.{⊤}
-use Rattle.sw_disk.specs.Calls.{Call, ListFolders}
+use Rattle.sw_disk.specs.Calls.{Call}
 use Rattle.sw_disk.specs.Folder.{Content, File, IsImage, files_of}
 use Rattle.sw_disk.specs.Runs.{IfTold, IsTelling, LeavesOnly, Past, Seen, refusal_of}
 use Rattle.sw_disk.specs.State.{State, free_of}
@@ -11,7 +11,7 @@ use Rattle.sw_disk.proofs.Chains.{told_map}
 use Rattle.sw_hashpath.specs.Place.{PlaceModel, folder_of}
 use Rattle.sw_hashdir.specs.declared.floor.Floor.{Floor}
 use Rattle.sw_diskfile.specs.Changes.{AreSynced, IsAsBefore, Keeps}
-use Rattle.sw_diskfile.proofs.Outcomes.{keeps_refused, keeps_run}
+use Rattle.sw_diskfile.proofs.Outcomes.{keeps_run}
 use Rattle.sw_suffix.specs.Table.{floor_at}
 use Rattle.sw_ring.specs.Cluster.{ClusterModel}
 use Rattle.sw_message.specs.Message.{IsMember, IsPlaceOf, is_primary, place_in}
@@ -22,7 +22,7 @@ use Rattle.sw_message.specs.Table.{IsHandled}
 use Rattle.sw_message.specs.declared.message.Msg.{Msg}
 use Rattle.sw_message.specs.declared.reply.Reply.{Reply}
 use Rattle.sw_objsrv.specs.Folder.{AreInOrder, HaveSameFloors, IsInOrder}
-use Rattle.sw_objsrv.specs.Handling.{AreListed, HandlesAt, HandlesSurvey, IsAnswered, IsBeforeOrAfter, IsStamped, StopsAt, Surveys, folders_of, reply_of}
+use Rattle.sw_objsrv.specs.Handling.{AreListed, HandlesAt, HandlesSurvey, IsAnswered, IsBeforeOrAfter, IsStamped, StopsAt, StopsSurvey, Surveys, folders_of, refused_reply, reply_of}
 use Rattle.sw_objsrv.specs.Node.{Handled, IfBothStates, IfSynced, IsByTable, IsNode, IsRefusal, NodeModel}
 use Rattle.sw_objsrv.proofs.Ended.{Ended, failed_counts, fails_fault, fault_fails, has_failed, other_quiet, placed_ended, stopped_ended, survey_ended}
 use Rattle.sw_objsrv.proofs.Fetched.{stops_reading}
@@ -105,12 +105,18 @@ module _ {D : Type 0} (seen : D → Seen) (left_since : D → Past) (cluster : C
 
   -- ---- about no place
 
+  -- one that was stopped changes nothing, and has no answer
+  keeps_survey : (calls : List Call) → ((name : List ℕ) (temporary : Option Content) → changes_by name calls temporary ≡ []) → (reason : DiskRefusal) → StopsSurvey seen left_since calls reason a b → IsUnmade (Err reason) → Keeps seen left_since (λ _. ⊤) a b
+  keeps_survey [] quiet reason want unmade = unmade refusal.NoMemory (ap (λ (r : DiskRefusal). Some r) want.0) (λ is. cc)
+  keeps_survey (call ∷ calls) quiet reason stopped unmade = stopped_keeps (call ∷ calls) quiet (Err reason) stopped unmade
+
+  no_survey : (calls : List Call) (reason : DiskRefusal) → StopsSurvey seen left_since calls reason a b → IsByTable (refused_reply reason) → ⊥
+  no_survey [] reason want by_table = by_table.1 (ap refused_reply want.0)
+  no_survey (call ∷ calls) reason stopped by_table = no_table (call ∷ calls) (Err reason) stopped by_table
+
   survey_keeps : (result : Result Reply DiskRefusal) → HandlesSurvey seen left_since cluster.part_power floors message result a b → IsUnmade result → Keeps seen left_since (λ _. ⊤) a b
   survey_keeps (Ok reply) surveys unmade = keeps_run seen left_since (λ _. ⊤) (survey_calls message) (λ name _ temporary. survey_quiet message name temporary) a b now earlier None surveys.runs
-  survey_keeps (Err refusal.Failed) (inl early) unmade = keeps_refused seen left_since a b now earlier ListFolders refusal.Failed early
-  survey_keeps (Err refusal.Failed) (inr want) unmade = absurd (let is = want.0 in cc)
-  survey_keeps (Err (refusal.Full need free)) handles unmade = unmade (refusal.Full need free) refl (λ is. cc)
-  survey_keeps (Err refusal.NoMemory) handles unmade = unmade refusal.NoMemory refl (λ is. cc)
+  survey_keeps (Err reason) stopped unmade = keeps_survey (survey_calls message) (survey_quiet message) reason stopped unmade
 
   abbrev Stepped : Reply → State → State → Type 0
   Stepped reply before after = IsNodeStep cluster device (free_of before) message (folders_of before) (folders_of after) reply
@@ -128,10 +134,7 @@ module _ {D : Type 0} (seen : D → Seen) (left_since : D → Past) (cluster : C
   surveyed_step : place_in message ≡ None → (result : Result Reply DiskRefusal) → HandlesSurvey seen left_since cluster.part_power floors message result a b → IsUnmade result → IsByTable (reply_of result)
       → IfBothStates (seen a) (seen b) (Stepped (reply_of result))
   surveyed_step about (Ok reply) surveys unmade by_table = told_step reply about surveys (survey_keeps (Ok reply) surveys unmade)
-  surveyed_step about (Err refusal.Failed) handles unmade by_table = absurd (by_table.0 refl)
-  surveyed_step about (Err (refusal.Full need free)) (inl early) unmade by_table = absurd early
-  surveyed_step about (Err (refusal.Full need free)) (inr want) unmade by_table = absurd (let is = want.0 in cc)
-  surveyed_step about (Err refusal.NoMemory) handles unmade by_table = absurd (by_table.1 refl)
+  surveyed_step about (Err reason) stopped unmade by_table = absurd (no_survey (survey_calls message) reason stopped by_table)
 
   not_about : (place : PlaceModel) → place_in message ≡ None → place_in message ≡ Some place → ⊥
   not_about place none some = cc

@@ -2,7 +2,7 @@
 use Rattle.std.specs.Prelude.{◌≡◌, ◌⊎◌, ◌↔◌, ℕ, ◌≤◌, List, [], ◌∷◌, ◌++◌, Contains, take, Option, Some, None, Result, Ok, Err, ⊤, Bool}
 use Rattle.std.specs.List.{All, AllPairs}
 use Rattle.sw_types.specs.Stamp.{greatest_stamp}
-use Rattle.sw_disk.specs.Calls.{Call, ListFolders, ListNames, ReadFile}
+use Rattle.sw_disk.specs.Calls.{Call, ListNames, ReadFile}
 use Rattle.sw_disk.specs.Folder.{File, files_of}
 use Rattle.sw_disk.specs.Answers.{IsBusy}
 use Rattle.sw_disk.specs.Runs.{IfTold, Past, Runs, Seen}
@@ -106,10 +106,14 @@ pub record Surveys {D : Type 0} (seen : D → Seen) (left_since : D → Past) (p
   pub surveyed : IsSurveyed power (Contains listed) (AreKept power floors) message reply
   pub runs : Runs seen left_since (survey_calls message) None old new
 
+-- these calls were stopped; where there are none memory was wanted, and the disk is the same
+abbrev pub StopsSurvey : {D : Type 0} → (D → Seen) → (D → Past) → List Call → DiskRefusal → D → D → Type 0
+StopsSurvey seen left_since [] reason old new = (reason ≡ refusal.NoMemory) × (new ≡ old)
+StopsSurvey seen left_since (call ∷ calls) reason old new = StopsAt seen left_since (call ∷ calls) (Err reason) old new
+
 abbrev pub HandlesSurvey : {D : Type 0} → (D → Seen) → (D → Past) → ℕ → List (PlaceModel × Floor) → Msg → Result Reply DiskRefusal → D → D → Type 0
 HandlesSurvey seen left_since power floors message (Ok reply) old new = Surveys seen left_since power floors message reply old new
-HandlesSurvey seen left_since power floors message (Err reason) old new =
-    StopsEarly seen left_since ListFolders (Err reason) old new ⊎ ((reason ≡ refusal.NoMemory) × (new ≡ old))
+HandlesSurvey seen left_since power floors message (Err reason) old new = StopsSurvey seen left_since (survey_calls message) reason old new
 
 abbrev pub HandlesAt : {D : Type 0} → (D → Seen) → (D → Past) → ClusterModel → ℕ → List (PlaceModel × Floor) → Msg → Option PlaceModel → Result Reply DiskRefusal → D → D → Type 0
 HandlesAt seen left_since cluster device floors message None result old new = HandlesSurvey seen left_since cluster.part_power floors message result old new
