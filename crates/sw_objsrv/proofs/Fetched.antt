@@ -96,7 +96,8 @@ module _ (cluster : ClusterModel) (place : PlaceModel) (stamp index : ℕ) where
       }
 
     -- reading it was stopped
-    module _ {D : Type 0} (seen : D → Seen) (left_since : D → Past) (a b c : D) (looked : RunsUnlessMemory seen left_since (ListNames (folder_of place) ∷ []) None a b) (folder : List ℕ) (spelled : folder ≡ folder_of place) where
+    module _ {D : Type 0} (seen : D → Seen) (left_since : D → Past) (a b c : D) (directory : IfTold (seen a).told (λ s. IsDirectoryOf (s.folder (folder_of place)) names))
+        (looked : RunsUnlessMemory seen left_since (ListNames (folder_of place) ∷ []) None a b) (folder : List ℕ) (spelled : folder ≡ folder_of place) where
       read_runs : (refusal : Option DiskRefusal) → Runs seen left_since (reads folder (Data entry.stamp entry.index entry.durable)) refusal b c → Runs seen left_since (ListNames (folder_of place) ∷ reads (folder_of place) name) refusal a c
       read_runs refusal read =
           runs_more seen left_since (ListNames (folder_of place) ∷ []) (reads (folder_of place) name) refusal a b c (look_done seen left_since (folder_of place) a b looked)
@@ -104,20 +105,20 @@ module _ (cluster : ClusterModel) (place : PlaceModel) (stamp index : ℕ) where
           (subst (λ (f : List ℕ). Runs seen left_since (reads f (Data entry.stamp entry.index entry.durable)) refusal b c) spelled read))
 
       pub stops_read : (reason : DiskRefusal) → IsNotFull reason → Runs seen left_since (reads folder (Data entry.stamp entry.index entry.durable)) (Some reason) b c → StopsReading seen left_since (message.Fetch place stamp index) (Err reason) a c
-      stops_read Failed other read = (entry.durable, read_runs (Some Failed) read)
+      stops_read Failed other read = (names, directory, entry.durable, there_is, read_runs (Some Failed) read)
       stops_read (Full need free) other read = absurd other
-      stops_read NoMemory other read = (entry.durable, inl (read_runs (Some NoMemory) read))
+      stops_read NoMemory other read = (names, directory, entry.durable, there_is, inl (read_runs (Some NoMemory) read))
 
       -- memory was wanted behind it
       pub wants_read : Runs seen left_since (reads folder (Data entry.stamp entry.index entry.durable)) None b c → StopsReading seen left_since (message.Fetch place stamp index) (Err NoMemory) a c
-      wants_read read = (entry.durable, inr (refl, read_runs None read))
+      wants_read read = (names, directory, entry.durable, there_is, inr (refl, read_runs None read))
 
 -- ---- reads that were stopped
 
 module _ {D : Type 0} (seen : D → Seen) (left_since : D → Past) (a b : D) where
   -- they gave no answer
   pub no_answer : (asked : Msg) (reply : Reply) → StopsReading seen left_since asked (Ok reply) a b → ⊥
-  no_answer (message.Fetch place stamp index) reply read = read.1
+  no_answer (message.Fetch place stamp index) reply read = read.4
   no_answer (message.PutFrag place stamp index bytes) reply read = read
   no_answer (message.Commit place stamp index) reply read = read
   no_answer (message.Delete place stamp) reply read = read
@@ -131,7 +132,7 @@ module _ {D : Type 0} (seen : D → Seen) (left_since : D → Past) (a b : D) wh
   pub stops_reading : (asked : Msg) (result : Result Reply DiskRefusal) → StopsReading seen left_since asked result a b
       → (calls : List Call) × ((name : List ℕ) (temporary : Option Content) → changes_by name calls temporary ≡ []) × StopsAt seen left_since calls result a b
   stops_reading (message.Fetch place stamp index) result read =
-      (ListNames (folder_of place) ∷ ReadFile (folder_of place) (file_name_text (Data stamp index read.0)) ∷ [], (λ name temporary. refl), read.1)
+      (ListNames (folder_of place) ∷ ReadFile (folder_of place) (file_name_text (Data stamp index read.2)) ∷ [], (λ name temporary. refl), read.4)
   stops_reading (message.PutFrag place stamp index bytes) result read = absurd read
   stops_reading (message.Commit place stamp index) result read = absurd read
   stops_reading (message.Delete place stamp) result read = absurd read

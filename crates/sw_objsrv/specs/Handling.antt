@@ -10,11 +10,13 @@ use Rattle.sw_disk.specs.State.{State, free_of}
 use Rattle.sw_disk.specs.declared.refusal.DiskRefusal.{DiskRefusal}
 use Rattle.sw_disk.specs.declared.refusal.DiskRefusal.TheVariants as refusal
 use Rattle.sw_hashpath.specs.FileName.{file_name_text}
+use Rattle.sw_hashpath.specs.declared.file_name.FileName.{FileName}
 use Rattle.sw_hashpath.specs.declared.file_name.FileName.TheVariants.{Data}
 use Rattle.sw_hashpath.specs.Place.{IsPlace, PlaceModel, folder_of}
+use Rattle.sw_hashdir.specs.Directory.{HasEntryAt}
 use Rattle.sw_hashdir.specs.declared.floor.Floor.{Floor}
 use Rattle.sw_suffix.specs.Table.{IsBefore}
-use Rattle.sw_diskfile.specs.Names.{RunsUnlessMemory}
+use Rattle.sw_diskfile.specs.Names.{IsDirectoryOf, RunsUnlessMemory}
 use Rattle.sw_diskfile.specs.Normal.{IsNormalForm}
 use Rattle.sw_ring.specs.Cluster.{ClusterModel}
 use Rattle.sw_message.specs.Message.{is_primary, place_in}
@@ -72,10 +74,11 @@ StopsAt seen left_since calls (Err refusal.NoMemory) old new = RunsUnlessMemory 
 abbrev pub StopsEarly : {D : Type 0} → (D → Seen) → (D → Past) → Call → Result Reply DiskRefusal → D → D → Type 0
 StopsEarly seen left_since first result old new = StopsAt seen left_since (first ∷ []) result old new
 
--- an entry was to be read that is asked for, whatever its bytes are
+-- an entry that was found was to be read, whatever its bytes are
 abbrev pub StopsReading : {D : Type 0} → (D → Seen) → (D → Past) → Msg → Result Reply DiskRefusal → D → D → Type 0
 StopsReading seen left_since (message.Fetch place stamp index) result old new =
-    (durable : Bool) × StopsAt seen left_since (ListNames (folder_of place) ∷ ReadFile (folder_of place) (file_name_text (Data stamp index durable)) ∷ []) result old new
+    (names : List FileName) × IfTold (seen old).told (λ state. IsDirectoryOf (state.folder (folder_of place)) names) × (durable : Bool) × HasEntryAt names stamp index durable
+    × StopsAt seen left_since (ListNames (folder_of place) ∷ ReadFile (folder_of place) (file_name_text (Data stamp index durable)) ∷ []) result old new
 StopsReading seen left_since other result old new = ⊥
 
 -- the folder was looked at, where it tells with what it holds, and a row of the table was done

@@ -62,13 +62,13 @@ returns-in_err-bytes-clause-handles g c =
     let p = err_from_is_err_and c.from_residual-in_err-bytes.result c.from_residual-in_err-bytes.ensures.1 in
     let entry = c.in-Some in
     rw (p.1, p.2) (inr (stops_read c.args.cluster.now c.args.place.now c.args.stamp c.args.index c.in_ok-looked.looked.dir entry.entry entry.ensures.0 entry.ensures.1 entry.ensures.2 g.D.Disk.seen g.D.Disk.left_since c.args.disk.now c.look_at.new.disk c.fetch.new.disk
-    c.in_ok-looked.ensures.runs c.deref.result.now (c.deref.ensures ∙ c.in_ok-looked.ensures.folder) c.in_err-bytes.field-0.0 c.in_err-bytes.ensures.never_full c.in_err-bytes.ensures.runs))
+    c.in_ok-looked.ensures.directory c.in_ok-looked.ensures.runs c.deref.result.now (c.deref.ensures ∙ c.in_ok-looked.ensures.folder) c.in_err-bytes.field-0.0 c.in_err-bytes.ensures.never_full c.in_err-bytes.ensures.runs))
 
 pub returns-clause-handles : goal.returns-clause-handles
 returns-clause-handles g c =
     let entry = c.in-Some in
     inr (wants_read c.args.cluster.now c.args.place.now c.args.stamp c.args.index c.in_ok-looked.looked.dir entry.entry entry.ensures.0 entry.ensures.1 entry.ensures.2 g.D.Disk.seen g.D.Disk.left_since c.args.disk.now c.look_at.new.disk c.fetch.new.disk
-    c.in_ok-looked.ensures.runs c.deref.result.now (c.deref.ensures ∙ c.in_ok-looked.ensures.folder) c.in_ok-bytes.ensures.runs)
+    c.in_ok-looked.ensures.directory c.in_ok-looked.ensures.runs c.deref.result.now (c.deref.ensures ∙ c.in_ok-looked.ensures.folder) c.in_ok-bytes.ensures.runs)
 
 pub returns-in_err-bytes-clause-kept : goal.returns-in_err-bytes-clause-kept
 returns-in_err-bytes-clause-kept g c =
