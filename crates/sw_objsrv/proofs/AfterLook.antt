@@ -1,5 +1,5 @@
 -- A look at a folder: what it tells of the disk before it, and handlings of a message that begin with it.
-use Rattle.std.proofs.Common.{ℕ, List, [], ◌∷◌, Option, None, Some, refl, subst, ◌≡◌, inl, inr, Bool, ◌++◌, Result, Ok, Err, IfErr, IfOk, sym, ◌∙◌, ◌↔◌, ⊎_elim, true, false, Contains, map, IsSome}
+use Rattle.std.proofs.Common.{ℕ, List, [], ◌∷◌, Option, None, Some, refl, subst, ◌≡◌, inl, inr, Bool, ◌++◌, Result, Ok, Err, IfErr, IfOk, sym, ◌↔◌, ⊎_elim, true, false, Contains, map, take, IsSome}
 use Rattle.std.specs.Prelude.{⊤}
 use Rattle.sw_disk.specs.Calls.{Call, ListNames, Step, calls_in}
 use Rattle.sw_disk.specs.Folder.{File, files_of, Content, content_at, Remove, Rename}
@@ -13,7 +13,6 @@ use Rattle.sw_objsrv.proofs.InOrder.{order_kept}
 use Rattle.sw_objsrv.proofs.Keeping.{keeps_twice}
 use Rattle.sw_objsrv.proofs.Room.{AreWithin, free_kept}
 use Rattle.sw_objsrv.proofs.Told.{has_told, told_after}
-use Rattle.std.proofs.lemmas.List.{append-nil}
 use Rattle.sw_disk.specs.Answers.{IsNotFull, names_of, HasFile, LacksFile}
 use Rattle.sw_disk.specs.declared.refusal.DiskRefusal.{DiskRefusal}
 use Rattle.sw_disk.specs.declared.refusal.DiskRefusal.TheVariants.{Failed, Full, NoMemory}
@@ -26,7 +25,7 @@ use Rattle.sw_diskfile.specs.Names.{IsDirectoryOf, RunsUnlessMemory, MakesName}
 use Rattle.sw_diskfile.proofs.Tidied.{look_done}
 use Rattle.sw_message.specs.Table.{Found, Handling, answers_after, Allows, HandlesCommit, HandlesDelete, HandlesRemove, HasDurableFloor, durable_text, plain_text, tombstone_text}
 use Rattle.sw_message.specs.declared.reply.Reply.{Reply}
-use Rattle.sw_objsrv.specs.Changing.{HandlesAfterLook, IsAtOnce, RunsAfterLook, Drops, MakesAndPurges}
+use Rattle.sw_objsrv.specs.Changing.{HandlesAfterLook, IsAtOnce, RunsAfterLook, Drops, MakesAndPurges, WantsMemoryFirst}
 use Rattle.sw_objsrv.specs.Folder.{IsInOrder, StaysInOrder}
 use Rattle.sw_objsrv.specs.Handling.{Handles, IsAnswer, RunsHandling, StopsEarly}
 use Rattle.sw_hashpath.specs.Place.{PlaceModel, folder_of}
@@ -111,15 +110,9 @@ module _ {D : Type 0} (seen : D → Seen) (left_since : D → Past) (folder : Li
     inl (subst IsAnswer (sym replies) runs.0),
   )
   runs_row reply calls (Err (Full need free)) handling a b c replies is looked runs = absurd runs
-  runs_row reply calls (Err NoMemory) handling a b c replies is looked runs = (
-    ListNames folder ∷ calls,
-    [],
-    all,
-    inl (runs_more seen left_since (ListNames folder ∷ []) calls (Some NoMemory) a b c (look_done seen left_since folder a b looked) runs.1),
-  )
-    where
-      all : handling.calls ≡ (ListNames folder ∷ calls) ++ []
-      all = is ∙ sym (append-nil (ListNames folder ∷ calls))
+  runs_row reply calls (Err NoMemory) handling a b c replies is looked runs =
+      subst (λ (l : List Call). Runs seen left_since (take 2 l) (Some NoMemory) a c) (sym is)
+      (runs_more seen left_since (ListNames folder ∷ []) (take 1 calls) (Some NoMemory) a b c (look_done seen left_since folder a b looked) runs)
 
   pub handles_after : (Row : Found → Handling → Type 0) (names : List FileName) (result : Result Reply DiskRefusal) (a b c : D) → Looks None a b → IfTold (seen a).told (λ s. IsDirectoryOf (s.folder folder) names)
       → HandlesAfterLook seen left_since folder Row names result b c → Handles seen left_since folder Row result a c
@@ -147,11 +140,11 @@ module _ {D : Type 0} (seen : D → Seen) (left_since : D → Past) (folder : Li
       handles_after Row names (Ok reply) a b b looked directory (inr (record { reply = reply; calls = []; changes = []; row = is.1; runs = (is.0, refl, runs_none seen left_since b) }))
 
   pub runs_given : (reply : Reply) (calls : List Call) (result : Result Reply DiskRefusal) (a b : D) → IsAnswer reply → IfErr result IsNotFull → IfOk result (λ given. reply ≡ given) → Runs seen left_since calls (refusal_of result) a b
-      → RunsAfterLook seen left_since reply calls result a b
-  runs_given reply calls (Ok given) a b answer other is runs = (subst IsAnswer is answer, is, runs)
-  runs_given reply calls (Err Failed) a b answer other is runs = (answer, runs)
-  runs_given reply calls (Err (Full need free)) a b answer other is runs = absurd other
-  runs_given reply calls (Err NoMemory) a b answer other is runs = (answer, runs)
+      → WantsMemoryFirst seen left_since calls (refusal_of result) a b → RunsAfterLook seen left_since reply calls result a b
+  runs_given reply calls (Ok given) a b answer other is runs early = (subst IsAnswer is answer, is, runs)
+  runs_given reply calls (Err Failed) a b answer other is runs early = (answer, runs)
+  runs_given reply calls (Err (Full need free)) a b answer other is runs early = absurd other
+  runs_given reply calls (Err NoMemory) a b answer other is runs early = early refl
 
   -- the look, and folders that are kept behind it
   pub keeps_after : (tells : Bool) (a b c : D) → IsTelling tells (seen a).told → IsTelling tells (seen b).told → Looks None a b → Keeps seen left_since (λ _. ⊤) a b → Keeps seen left_since (λ _. ⊤) b c → Keeps seen left_since (λ _. ⊤) a c
@@ -179,7 +172,7 @@ module _ {D : Type 0} (seen : D → Seen) (left_since : D → Past) (place : Pla
         calls = commit_calls folder (plain_text stamp index) (durable_text stamp index) ++ purge_calls folder made.0;
         changes = Rename (plain_text stamp index) (durable_text stamp index) ∷ map Remove made.0;
         row = λ bytes room. inr (inl (plain, made.0, made.1, refl));
-        runs = runs_given seen left_since folder Committed (commit_calls folder (plain_text stamp index) (durable_text stamp index) ++ purge_calls folder made.0) result a b tt other is made.2;
+        runs = runs_given seen left_since folder Committed (commit_calls folder (plain_text stamp index) (durable_text stamp index) ++ purge_calls folder made.0) result a b tt other is made.2 made.3;
       }))
       makes
 
@@ -192,7 +185,7 @@ module _ {D : Type 0} (seen : D → Seen) (left_since : D → Past) (place : Pla
         calls = store_calls folder (tombstone_text stamp) [] ++ purge_calls folder made.0;
         changes = new_file (tombstone_text stamp) [] ∷ map Remove made.0;
         row = λ bytes room. inr (allows, existed, durable, inr (lacks, made.0, made.1, refl));
-        runs = runs_given seen left_since folder (Deleted existed) (store_calls folder (tombstone_text stamp) [] ++ purge_calls folder made.0) result a b tt other is made.2;
+        runs = runs_given seen left_since folder (Deleted existed) (store_calls folder (tombstone_text stamp) [] ++ purge_calls folder made.0) result a b tt other is made.2 made.3;
       }))
       makes
 
@@ -207,7 +200,7 @@ module _ {D : Type 0} (seen : D → Seen) (left_since : D → Past) (place : Pla
         calls = drop_calls folder text;
         changes = Remove text ∷ [];
         row = λ bytes room. inr (handoff, inr (entry.durable, has, refl));
-        runs = runs_given seen left_since folder Removed (drop_calls folder text) result a b tt other is runs;
+        runs = runs_given seen left_since folder Removed (drop_calls folder text) result a b tt other is runs.0 runs.1;
       }))
       drops
 

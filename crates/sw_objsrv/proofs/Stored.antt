@@ -103,8 +103,8 @@ module _ (stamp index : ℕ) (names : List FileName) (uncovered : IsUncovered na
 
       pub stored_refused : (reason : DiskRefusal) → ((need free : ℕ) → reason ≡ Full need free → IsFull need free (length bytes) (seen b).told)
           → IfTold (seen b).told (λ s. free_of s < length bytes → Runs seen left_since (WriteTmp bytes ∷ []) (Some reason) b c) → Runs seen left_since stores (Some reason) b c
-          → Follows seen left_since (folder_of place) Row (Err reason) a c
-      stored_refused Failed is_full overfull run =
+          → (reason ≡ NoMemory → Runs seen left_since (WriteTmp bytes ∷ []) (Some NoMemory) b c) → Follows seen left_since (folder_of place) Row (Err reason) a c
+      stored_refused Failed is_full overfull run early =
           let room = length bytes in
           elim (cases_lt (found room).room (length bytes)) [
             | inl less ↦ record {
@@ -122,7 +122,7 @@ module _ (stamp index : ℕ) (names : List FileName) (uncovered : IsUncovered na
               runs = (more stores (Some Failed) run, inl tt);
             }
           ]
-      stored_refused (Full need free) is_full overfull run =
+      stored_refused (Full need free) is_full overfull run early =
           let full_is = is_full need free refl in
           let room : free ≡ (found free).room = room_is (λ n. free ≡ n) free refl full_is.free_is in
           let less : (found free).room < length bytes = omega (arith, room, full_is.less, full_is.needed) in
@@ -133,7 +133,7 @@ module _ (stamp index : ℕ) (names : List FileName) (uncovered : IsUncovered na
             row = full_row free less;
             runs = (ap (λ n. NoSpace n (found free).room) (sym full_is.needed) ∙ ap (λ n. NoSpace need n) (sym room), more stores (Some (Full need free)) run);
           }
-      stored_refused NoMemory is_full overfull run =
+      stored_refused NoMemory is_full overfull run early =
           let room = length bytes in
           elim (cases_lt (found room).room (length bytes)) [
             | inl less ↦ record {
@@ -141,13 +141,13 @@ module _ (stamp index : ℕ) (names : List FileName) (uncovered : IsUncovered na
               is_found = is_found (seen a).told (folder_of place) names [] room directory;
               handling = full (found room).room;
               row = full_row room less;
-              runs = (ListNames (folder_of place) ∷ stores, [], refl, inl (more stores (Some NoMemory) run));
+              runs = more (WriteTmp bytes ∷ []) (Some NoMemory) (early refl);
             }
             | inr enough ↦ record {
               found = found room;
               is_found = is_found (seen a).told (folder_of place) names [] room directory;
               handling = done;
               row = done_row room enough;
-              runs = (ListNames (folder_of place) ∷ stores, [], refl, inl (more stores (Some NoMemory) run));
+              runs = more (WriteTmp bytes ∷ []) (Some NoMemory) (early refl);
             }
           ]

@@ -1,5 +1,5 @@
 -- What is done behind the look at a folder, by its row of the table.
-use Rattle.std.specs.Prelude.{◌≡◌, ◌≢◌, ◌⊎◌, ℕ, ◌≤◌, Bool, true, false, List, [], ◌++◌, Contains, length, Option, Some, None, Result, Ok, Err, String, string_bytes}
+use Rattle.std.specs.Prelude.{◌≡◌, ◌≢◌, ◌⊎◌, ℕ, ◌≤◌, Bool, true, false, List, [], ◌++◌, Contains, length, take, Option, Some, None, Result, Ok, Err, String, string_bytes}
 use Rattle.std.specs.List.{All}
 use Rattle.std.specs.declared.alloc.Global.{Global}
 use Rattle.sw_disk.specs.Answers.{texts_of}
@@ -7,7 +7,7 @@ use Rattle.sw_disk.specs.Calls.{Call}
 use Rattle.sw_disk.specs.Folder.{Change}
 use Rattle.sw_disk.specs.Runs.{IfTold, IsUntouched, Past, Runs, Seen, refusal_of}
 use Rattle.sw_disk.specs.declared.refusal.DiskRefusal.{DiskRefusal}
-use Rattle.sw_disk.specs.declared.refusal.DiskRefusal.TheVariants.{Full, NoMemory}
+use Rattle.sw_disk.specs.declared.refusal.DiskRefusal.TheVariants.{Failed, Full, NoMemory}
 use Rattle.sw_disk.specs.State.{State}
 use Rattle.sw_hashpath.specs.FileName.{file_name_text}
 use Rattle.sw_hashpath.specs.Place.{PlaceModel}
@@ -53,11 +53,16 @@ pub record IsPlanned (is_primary : Bool) (made : FileName) (names : List FileNam
   pub floor_is : IsFloor purged.later floor
   pub short : All (λ text. length (string_bytes text) ≤ 96) obsolete
 
+-- if memory is wanted, that is before the first of these calls is done
+abbrev pub WantsMemoryFirst : {D : Type 0} → (D → Seen) → (D → Past) → List Call → Option DiskRefusal → D → D → Type 0
+WantsMemoryFirst seen left_since calls refusal old new = refusal ≡ Some NoMemory → Runs seen left_since (take 1 calls) (Some NoMemory) old new
+
 -- memory was wanted before the first call, or a file is made and what that makes obsolete is removed
 abbrev pub MakesAndPurges : {D : Type 0} → (D → Seen) → (D → Past) → List ℕ → Bool → FileName → List FileName → Option DiskRefusal → D → D → Type 0
 MakesAndPurges seen left_since folder is_primary made names refusal old new =
     ((refusal ≡ Some NoMemory) × IsUntouched seen left_since old new)
-    ⊎ ((obsolete : List (List ℕ)) × ArePurged is_primary made names obsolete × Runs seen left_since (make_calls folder made ++ purge_calls folder obsolete) refusal old new)
+    ⊎ ((obsolete : List (List ℕ)) × ArePurged is_primary made names obsolete × Runs seen left_since (make_calls folder made ++ purge_calls folder obsolete) refusal old new
+    × WantsMemoryFirst seen left_since (make_calls folder made) refusal old new)
 
 -- ---- removing a file
 
@@ -65,7 +70,8 @@ MakesAndPurges seen left_since folder is_primary made names refusal old new =
 abbrev pub Drops : {D : Type 0} → (D → Seen) → (D → Past) → List ℕ → Entry → Option DiskRefusal → D → D → Type 0
 Drops seen left_since folder entry refusal old new =
     ((refusal ≡ Some NoMemory) × IsUntouched seen left_since old new)
-    ⊎ Runs seen left_since (drop_calls folder (file_name_text (Data entry.stamp entry.index entry.durable))) refusal old new
+    ⊎ (Runs seen left_since (drop_calls folder (file_name_text (Data entry.stamp entry.index entry.durable))) refusal old new
+    × WantsMemoryFirst seen left_since (drop_calls folder (file_name_text (Data entry.stamp entry.index entry.durable))) refusal old new)
 
 -- a folder with these names that is in order at a handoff stays so, and has this floor then
 abbrev pub LeavesOrder : List ℕ → List FileName → Option Floor → (old new : Option State) → Type 0
@@ -81,7 +87,8 @@ IsAtOnce folder Row names reply = IsAnswer reply × ((bytes : FileName → List 
 abbrev pub RunsAfterLook : {D : Type 0} → (D → Seen) → (D → Past) → Reply → List Call → Result Reply DiskRefusal → D → D → Type 0
 RunsAfterLook seen left_since reply calls (Ok given) old new = IsAnswer given × (reply ≡ given) × Runs seen left_since calls None old new
 RunsAfterLook seen left_since reply calls (Err (Full need free)) old new = ⊥
-RunsAfterLook seen left_since reply calls (Err reason) old new = IsAnswer reply × Runs seen left_since calls (Some reason) old new
+RunsAfterLook seen left_since reply calls (Err Failed) old new = IsAnswer reply × Runs seen left_since calls (Some Failed) old new
+RunsAfterLook seen left_since reply calls (Err NoMemory) old new = Runs seen left_since (take 1 calls) (Some NoMemory) old new
 
 -- of a folder with these names
 pub record FollowsLook {D : Type 0} (seen : D → Seen) (left_since : D → Past) (folder : List ℕ) (Row : Found → Handling → Type 0) (names : List FileName) (result : Result Reply DiskRefusal) (old new : D) : Type 0 where

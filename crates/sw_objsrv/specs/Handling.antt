@@ -1,5 +1,5 @@
 -- How a message is handled: the device calls that were done, by the table, and what a refusal or a crash leaves.
-use Rattle.std.specs.Prelude.{◌≡◌, ◌⊎◌, ◌↔◌, ℕ, ◌≤◌, List, [], ◌∷◌, ◌++◌, Contains, take, Option, Some, None, Result, Ok, Err, ⊤, Bool}
+use Rattle.std.specs.Prelude.{◌≡◌, ◌⊎◌, ◌↔◌, ℕ, ◌≤◌, List, [], ◌∷◌, Contains, take, Option, Some, None, Result, Ok, Err, ⊤, Bool}
 use Rattle.std.specs.List.{All, AllPairs}
 use Rattle.sw_types.specs.Stamp.{greatest_stamp}
 use Rattle.sw_disk.specs.Calls.{Call, ListNames, ReadFile}
@@ -53,7 +53,7 @@ IsStamped other = ⊤
 -- ---- device calls
 
 -- The calls of a handling run. A failure stops them, the first of them behind the look where the bytes would not fit; a full disk does,
--- with the reply of the table; where memory was wanted some first of them were done.
+-- with the reply of the table; memory is wanted at the look or at the call behind it, so before any that changes something is done.
 abbrev pub RunsHandling : {D : Type 0} → (D → Seen) → (D → Past) → Handling → Result Reply DiskRefusal → D → D → Type 0
 RunsHandling seen left_since handling (Ok reply) old new = IsAnswer reply × (handling.reply ≡ reply) × Runs seen left_since handling.calls None old new
 RunsHandling seen left_since handling (Err refusal.Failed) old new =
@@ -61,7 +61,7 @@ RunsHandling seen left_since handling (Err refusal.Failed) old new =
 RunsHandling seen left_since handling (Err (refusal.Full need free)) old new =
     (handling.reply ≡ NoSpace need free) × Runs seen left_since handling.calls (Some (refusal.Full need free)) old new
 RunsHandling seen left_since handling (Err refusal.NoMemory) old new =
-    (front rest : List Call) × (handling.calls ≡ front ++ rest) × RunsUnlessMemory seen left_since front (Some refusal.NoMemory) old new
+    Runs seen left_since (take 2 handling.calls) (Some refusal.NoMemory) old new
 
 -- the last of these calls was refused, or memory was wanted before or behind it
 abbrev pub StopsAt : {D : Type 0} → (D → Seen) → (D → Past) → List Call → Result Reply DiskRefusal → D → D → Type 0

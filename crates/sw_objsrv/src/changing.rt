@@ -17,7 +17,7 @@ ghost use Rattle.sw_diskfile.specs.Calls.{purge_calls};
 ghost use Rattle.sw_diskfile.specs.Changes.{IfBothTold, IsMadeStable, Keeps};
 ghost use Rattle.sw_diskfile.specs.Names.{IsDirectoryOf, MakesName};
 ghost use Rattle.sw_message.specs.Table.{ArePurged};
-ghost use Rattle.sw_objsrv.specs.Changing.{IsNew, IsPlanned, IsReserved, MakesAndPurges, make_calls};
+ghost use Rattle.sw_objsrv.specs.Changing.{IsNew, IsPlanned, IsReserved, MakesAndPurges, WantsMemoryFirst, make_calls};
 ghost use Rattle.sw_objsrv.specs.Folder.{HaveSameFloors, HaveSameOtherFloors, IsInOrder};
 
 use crate::floor_change::FloorChange;
@@ -131,6 +131,7 @@ fn make_files<D: Disk>(
     requires short { All (λ text. length (string_bytes text) ≤ 96) obsolete.now }
     requires room { length obsolete.now < (D.seen disk.old).room (string_bytes looked.now.folder) }
     ensures runs { Runs D.seen D.left_since (make_calls (string_bytes looked.now.folder) made.now ++ purge_calls (string_bytes looked.now.folder) (texts_of obsolete.now)) (refusal_of result) disk.old disk.new }
+    ensures early { WantsMemoryFirst D.seen D.left_since (make_calls (string_bytes looked.now.folder) made.now) (refusal_of result) disk.old disk.new }
     ensures order { OnOk result ((later : List AFileName) (floor : Option AFloor) → IsAfter made.now looked.now.dir later → IsFloor later floor →
         IfTold (D.seen disk.new).told (λ state. IsInOrder is_primary floor (state.folder (string_bytes looked.now.folder)))) }
     ensures unmade { (reason : ARefusal) → refusal_of result ≡ Some reason → reason ≢ Failed → Keeps D.seen D.left_since (λ name. ⊤) disk.old disk.new }
@@ -152,6 +153,7 @@ fn make_file<D: Disk>(
     requires named { IsFileName made }
     requires new { IsNew looked.now.dir made }
     ensures runs { Runs D.seen D.left_since (make_calls (string_bytes looked.now.folder) made) (refusal_of result) disk.old disk.new }
+    ensures early { WantsMemoryFirst D.seen D.left_since (make_calls (string_bytes looked.now.folder) made) (refusal_of result) disk.old disk.new }
     ensures directory { OnOk result (IfBothTold (D.seen disk.old) (D.seen disk.new) (string_bytes looked.now.folder) (MakesName made)) }
     ensures stable { OnOk result (IfBothTold (D.seen disk.old) (D.seen disk.new) (string_bytes looked.now.folder) IsMadeStable) }
     ensures unmade { (reason : ARefusal) → refusal_of result ≡ Some reason → reason ≢ Failed → Keeps D.seen D.left_since (λ name. ⊤) disk.old disk.new }
