@@ -1,0 +1,4 @@
+pub mod Changes
+pub mod Devices
+pub mod Dues
+pub mod Transcripts

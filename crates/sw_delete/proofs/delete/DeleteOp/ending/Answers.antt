@@ -1,0 +1,26 @@
+-- There are few devices.
+use Rattle.std.proofs.Common.{ℕ, length, ap, arith}
+use Rattle.sw_quorum.specs.Laws.{counts-within}
+use Rattle.sw_quorum.specs.Tally.{Counts}
+use Rattle.sw_delete.specs.Delete.{deletes}
+use Rattle.sw_delete.proofs.Devices.{handoffs_few, primaries_few}
+use Rattle.sw_delete.proofs.Dues.{due-few}
+use Rattle.sw_delete.proofs.Transcripts.{answers-and-opens, given-within}
+use Rattle.sw_delete.proofs.delete.DeleteOp.ending.Goals as goal
+
+pub overflow_cast-marks : goal.overflow_cast-marks
+overflow_cast-marks c =
+    let begun = c.self.invariant.0.0 in
+    let past = c.self.invariant.0.1 in
+    let stood = c.self.invariant.0.2 in
+    omega (
+      arith,
+      ap length c.done.ensures,
+      ap (λ (counts : Counts ℕ). length counts.done) stood.counts_are,
+      (counts-within (deletes past)).done,
+      answers-and-opens begun past stood.run,
+      given-within begun past stood.run,
+      due-few begun past,
+      primaries_few begun stood.valid,
+      handoffs_few begun stood.valid,
+    )

@@ -1,0 +1,3 @@
+pub mod Delete
+pub mod Inside
+pub mod Standing

@@ -1,0 +1,8 @@
+//! Writes that go to several devices: what the answers mean, and how many of them did what was asked.
+#![tactic(auto)]
+
+mod tally;
+mod verdict;
+
+pub use crate::tally::Tally;
+pub use crate::verdict::Verdict;
