@@ -1,5 +1,5 @@
 -- An archive that is stored where it is not there and no floor stands above it.
-use Rattle.std.proofs.Common.{◌≡◌, inl, inr, ℕ, ◌<◌, ◌≤◌, Bool, false, List, [], ◌∷◌, length, Option, None, Some, Ok, Err, refl, sym, ap, ◌∙◌, arith}
+use Rattle.std.proofs.Common.{◌≡◌, ◌≢◌, inl, inr, ℕ, ◌<◌, ◌≤◌, Bool, false, List, [], ◌∷◌, length, Option, None, Some, Ok, Err, refl, sym, ap, ◌∙◌, arith}
 use Rattle.std.proofs.lemmas.Bool.{cases_lt}
 use Rattle.sw_disk.specs.Answers.{IsFull, names_of}
 use Rattle.sw_disk.specs.Calls.{Call, ListNames, WriteTmp}
@@ -103,7 +103,7 @@ module _ (stamp index : ℕ) (names : List FileName) (uncovered : IsUncovered na
 
       pub stored_refused : (reason : DiskRefusal) → ((need free : ℕ) → reason ≡ Full need free → IsFull need free (length bytes) (seen b).told)
           → IfTold (seen b).told (λ s. free_of s < length bytes → Runs seen left_since (WriteTmp bytes ∷ []) (Some reason) b c) → Runs seen left_since stores (Some reason) b c
-          → (reason ≡ NoMemory → Runs seen left_since (WriteTmp bytes ∷ []) (Some NoMemory) b c) → Follows seen left_since (folder_of place) Row (Err reason) a c
+          → (reason ≢ Failed → Runs seen left_since (WriteTmp bytes ∷ []) (Some reason) b c) → Follows seen left_since (folder_of place) Row (Err reason) a c
       stored_refused Failed is_full overfull run early =
           let room = length bytes in
           elim (cases_lt (found room).room (length bytes)) [
@@ -131,7 +131,7 @@ module _ (stamp index : ℕ) (names : List FileName) (uncovered : IsUncovered na
             is_found = is_found (seen a).told (folder_of place) names [] free directory;
             handling = full (found free).room;
             row = full_row free less;
-            runs = (ap (λ n. NoSpace n (found free).room) (sym full_is.needed) ∙ ap (λ n. NoSpace need n) (sym room), more stores (Some (Full need free)) run);
+            runs = (ap (λ n. NoSpace n (found free).room) (sym full_is.needed) ∙ ap (λ n. NoSpace need n) (sym room), more (WriteTmp bytes ∷ []) (Some (Full need free)) (early (λ is. cc)));
           }
       stored_refused NoMemory is_full overfull run early =
           let room = length bytes in
@@ -141,13 +141,13 @@ module _ (stamp index : ℕ) (names : List FileName) (uncovered : IsUncovered na
               is_found = is_found (seen a).told (folder_of place) names [] room directory;
               handling = full (found room).room;
               row = full_row room less;
-              runs = more (WriteTmp bytes ∷ []) (Some NoMemory) (early refl);
+              runs = more (WriteTmp bytes ∷ []) (Some NoMemory) (early (λ is. cc));
             }
             | inr enough ↦ record {
               found = found room;
               is_found = is_found (seen a).told (folder_of place) names [] room directory;
               handling = done;
               row = done_row room enough;
-              runs = more (WriteTmp bytes ∷ []) (Some NoMemory) (early refl);
+              runs = more (WriteTmp bytes ∷ []) (Some NoMemory) (early (λ is. cc));
             }
           ]

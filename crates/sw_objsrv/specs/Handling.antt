@@ -52,14 +52,14 @@ IsStamped other = ⊤
 
 -- ---- device calls
 
--- The calls of a handling run. A failure stops them, the first of them behind the look where the bytes would not fit; a full disk does,
--- with the reply of the table; memory is wanted at the look or at the call behind it, so before any that changes something is done.
+-- The calls of a handling run. A failure stops them, the first of them behind the look where the bytes would not fit. A full disk, with
+-- the reply of the table, and want of memory do so at the look or at the call behind it, before any that changes something is done.
 abbrev pub RunsHandling : {D : Type 0} → (D → Seen) → (D → Past) → Handling → Result Reply DiskRefusal → D → D → Type 0
 RunsHandling seen left_since handling (Ok reply) old new = IsAnswer reply × (handling.reply ≡ reply) × Runs seen left_since handling.calls None old new
 RunsHandling seen left_since handling (Err refusal.Failed) old new =
     Runs seen left_since handling.calls (Some refusal.Failed) old new × (IsAnswer handling.reply ⊎ Runs seen left_since (take 2 handling.calls) (Some refusal.Failed) old new)
 RunsHandling seen left_since handling (Err (refusal.Full need free)) old new =
-    (handling.reply ≡ NoSpace need free) × Runs seen left_since handling.calls (Some (refusal.Full need free)) old new
+    (handling.reply ≡ NoSpace need free) × Runs seen left_since (take 2 handling.calls) (Some (refusal.Full need free)) old new
 RunsHandling seen left_since handling (Err refusal.NoMemory) old new =
     Runs seen left_since (take 2 handling.calls) (Some refusal.NoMemory) old new
 

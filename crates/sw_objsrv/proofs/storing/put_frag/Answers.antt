@@ -4,7 +4,6 @@ use Rattle.std.proofs.lemmas.Result.{err_from_is_err_and}
 use Rattle.sw_disk.specs.Runs.{Runs}
 use Rattle.sw_disk.specs.State.{size_of}
 use Rattle.sw_disk.specs.declared.refusal.DiskRefusal.{DiskRefusal}
-use Rattle.sw_disk.specs.declared.refusal.DiskRefusal.TheVariants.{NoMemory}
 use Rattle.sw_hashpath.specs.Place.{folder_of}
 use Rattle.sw_hashpath.specs.declared.file_name.FileName.TheVariants.{Data}
 use Rattle.sw_hashdir.specs.declared.entry.Entry.{Entry}
@@ -112,7 +111,7 @@ returns-in_err-store-clause-handles g c =
     rw (p.1, p.2) (inr (stored_refused c.args.stamp c.args.index c.in_ok-looked.looked.dir c.in_default.ensures lacks c.args.cluster.now place c.args.bytes.now asked g.D.Disk.seen g.D.Disk.left_since a b c.store.new.disk
     c.in_ok-looked.ensures.directory within c.in_ok-looked.ensures.runs reason (λ need free is. c.in_err-store.ensures.full need free (ap (λ (r : DiskRefusal). err r) is)) (c.in_err-store.ensures.overfull reason refl)
     (subst (λ (folder : List ℕ). Runs g.D.Disk.seen g.D.Disk.left_since (store_calls folder (plain_text c.args.stamp c.args.index) c.args.bytes.now) (Some reason) b c.store.new.disk) (c.deref.ensures ∙ c.in_ok-looked.ensures.folder) c.in_err-store.ensures.runs)
-    (λ is. c.in_err-store.ensures.early NoMemory (ap (λ (r : DiskRefusal). Some r) is) (λ failed. cc))))
+    (c.in_err-store.ensures.early reason refl)))
 
 pub returns-in_err-store-clause-unmade : goal.returns-in_err-store-clause-unmade
 returns-in_err-store-clause-unmade g c = λ reason is other.
