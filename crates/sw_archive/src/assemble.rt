@@ -1,6 +1,6 @@
 //! Archives are gathered, and the object is read from them.
 
-ghost use Rattle.std.specs.Prelude.{◌≡◌, ◌<◌, ◌≤◌, ◌+◌, ◌++◌, ◌∷◌, ◌↔◌, [], List, ℕ, Err, IfOk, IsTrue, MatchResult, Ok, length};
+ghost use Rattle.std.specs.Prelude.{◌≡◌, ◌<◌, ◌≤◌, ◌+◌, ◌++◌, ◌∷◌, ◌↔◌, [], List, ℕ, Err, IfOk, IsTrue, MatchOption, MatchResult, Ok, length};
 ghost use Rattle.std.specs.List.{All};
 ghost use Rattle.sw_words.specs.Memory.{UnlessMemory};
 ghost use Rattle.sw_types.specs.Name.{NameModel};
@@ -90,6 +90,14 @@ impl Assemble {
         }
         self.archives.push_reserved(archive);
         Ok(())
+    }
+
+    /// Takes away the archive that was added last. It takes no memory.
+    pub fn remove_last(&mut self) -> Option<Archive>
+        ensures last { MatchOption result ((self.old.archives ≡ []) × (self.new.archives ≡ [])) (λ last. self.old.archives ≡ self.new.archives ++ last ∷ []) }
+        ensures room { self.new.room ≡ self.old.room }
+    {
+        self.archives.pop()
     }
 
     /// Whether k archives are there.

@@ -8,7 +8,7 @@ use Rattle.sw_archive.specs.Fault.{IsFault}
 use Rattle.sw_archive.specs.declared.fault.ArchiveFault.{ArchiveFault}
 use Rattle.sw_archive.proofs.Archives.{one_archive}
 use Rattle.sw_ring.specs.Cluster.{ClusterModel}
-use Rattle.sw_message.specs.Spoil.{Differs, IsArchiveOf, IsAsked, IsOfPlace, IsSpoil}
+use Rattle.sw_message.specs.Spoil.{Differs, DiffersIn, IsAlike, IsArchiveOf, IsAsked, IsOfPlace, IsSpoil}
 use Rattle.sw_message.specs.declared.spoil.Foreign.{Foreign as AForeign}
 use Rattle.sw_message.specs.declared.spoil.Foreign.TheVariants.{Name, Stamp, Index, Code, Object}
 use Rattle.sw_message.specs.declared.spoil.Spoil.{Spoil}
@@ -47,11 +47,28 @@ module _ (Named : NameModel → Type 0) (policy : PolicyModel) (stamp index : �
   one_difference Object b x y = absurd x
   one_difference a Object x y = absurd y
 
+-- one that is named as was asked for
+module _ (Named : NameModel → Type 0) (policy : PolicyModel) (stamp index : ℕ) (archive : ArchiveModel) (named : Named archive.name) where
+  pub asked_behind : IsAlike policy stamp index archive → IsAsked Named policy stamp index archive
+  asked_behind alike = record { name = named; stamp_is = alike.stamp_is; index_is = alike.index_is; code = alike.code }
+
+  pub differs_behind : (foreign : AForeign) → DiffersIn policy stamp index archive foreign → Differs Named policy stamp index archive foreign
+  differs_behind Name differs = absurd differs
+  differs_behind Stamp differs = (named, differs)
+  differs_behind Index differs = (named, differs.0, differs.1)
+  differs_behind Code differs = (named, differs.0, differs.1, differs.2)
+  differs_behind Object differs = differs
+
+-- bytes that spell one archive are not another one that was asked for
+pub other_than_asked : (Named : NameModel → Type 0) (policy : PolicyModel) (stamp index : ℕ) (bytes : List ℕ) (archive other : ArchiveModel) (foreign : AForeign)
+    → IsArchive bytes archive → IsArchive bytes other → IsAsked Named policy stamp index archive → Differs Named policy stamp index other foreign → ⊥
+other_than_asked Named policy stamp index bytes archive other foreign is spelled asked differs =
+    asked_alike Named policy stamp index other foreign (subst (IsAsked Named policy stamp index) (one_archive bytes archive other is spelled) asked) differs
+
 module _ (cluster : ClusterModel) (place : PlaceModel) (stamp index : ℕ) (bytes : List ℕ) where
   pub asked_or_foreign : (foreign : AForeign) → IsArchiveOf cluster place stamp index bytes → IsSpoil cluster place stamp index bytes (Foreign foreign) → ⊥
   asked_or_foreign foreign is other =
-      asked_alike (IsOfPlace cluster place) cluster.policy stamp index other.0 foreign
-      (subst (IsAsked (IsOfPlace cluster place) cluster.policy stamp index) (one_archive bytes is.archive other.0 is.spelled other.1) is.asked) other.2
+      other_than_asked (IsOfPlace cluster place) cluster.policy stamp index bytes is.archive other.0 foreign is.spelled other.1 is.asked other.2
 
   one_foreign : (a b : AForeign) → IsSpoil cluster place stamp index bytes (Foreign a) → IsSpoil cluster place stamp index bytes (Foreign b) → a ≡ b
   one_foreign a b x y =

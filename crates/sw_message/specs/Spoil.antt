@@ -41,14 +41,35 @@ Differs Named policy stamp index archive foreign.Object = ⊥
 abbrev pub IsOfPlace : ClusterModel → PlaceModel → NameModel → Type 0
 IsOfPlace cluster place name = place_of_name cluster name ≡ place
 
+-- the archive has the stamp, the index and the code that were asked for
+pub record IsAlike (policy : PolicyModel) (stamp index : ℕ) (archive : ArchiveModel) : Type 0 where
+  pub stamp_is : archive.stamp ≡ stamp
+  pub index_is : archive.index ≡ index
+  pub code : HasCode policy archive
+
+-- the first of these in which it differs
+abbrev pub DiffersIn : PolicyModel → (stamp index : ℕ) → ArchiveModel → Foreign → Type 0
+DiffersIn policy stamp index archive foreign.Name = ⊥
+DiffersIn policy stamp index archive foreign.Stamp = archive.stamp ≢ stamp
+DiffersIn policy stamp index archive foreign.Index = (archive.stamp ≡ stamp) × (archive.index ≢ index)
+DiffersIn policy stamp index archive foreign.Code = (archive.stamp ≡ stamp) × (archive.index ≡ index) × (HasCode policy archive → ⊥)
+DiffersIn policy stamp index archive foreign.Object = ⊥
+
 -- the bytes are the archive of a place, stamp and index
 pub record IsArchiveOf (cluster : ClusterModel) (place : PlaceModel) (stamp index : ℕ) (bytes : List ℕ) : Type 0 where
   pub archive : ArchiveModel
   pub spelled : IsArchive bytes archive
   pub asked : IsAsked (IsOfPlace cluster place) cluster.policy stamp index archive
 
--- they are not: they are no archive, or another one
+-- they are not what was asked for: they are no archive, or another one
+abbrev pub IsSpoilOf : (NameModel → Type 0) → PolicyModel → (stamp index : ℕ) → List ℕ → Spoil → Type 0
+IsSpoilOf Named policy stamp index bytes (spoil.Fault fault) = IsFault bytes fault
+IsSpoilOf Named policy stamp index bytes (spoil.Foreign foreign) = (archive : ArchiveModel) × IsArchive bytes archive × Differs Named policy stamp index archive foreign
+
+-- they are not the archive of a place, stamp and index
 abbrev pub IsSpoil : ClusterModel → PlaceModel → (stamp index : ℕ) → List ℕ → Spoil → Type 0
-IsSpoil cluster place stamp index bytes (spoil.Fault fault) = IsFault bytes fault
-IsSpoil cluster place stamp index bytes (spoil.Foreign foreign) =
-    (archive : ArchiveModel) × IsArchive bytes archive × Differs (IsOfPlace cluster place) cluster.policy stamp index archive foreign
+IsSpoil cluster place stamp index bytes spoil = IsSpoilOf (IsOfPlace cluster place) cluster.policy stamp index bytes spoil
+
+-- the name is this one
+abbrev pub IsNamed : NameModel → NameModel → Type 0
+IsNamed name other = other ≡ name

@@ -5,7 +5,7 @@ ghost use Rattle.sw_words.specs.Memory.{UnlessMemory};
 ghost use Rattle.sw_archive.specs.Archive.{ArchiveModel, IsArchive};
 ghost use Rattle.sw_archive.specs.Fault.{IsFault};
 ghost use Rattle.sw_archive.specs.declared.fault.ArchiveFault.{ArchiveFault as AFault};
-ghost use Rattle.sw_message.specs.Spoil.{Differs, HasCode, IsAsked, IsOfPlace, IsSpoil};
+ghost use Rattle.sw_message.specs.Spoil.{DiffersIn, HasCode, IsAlike, IsAsked, IsNamed, IsOfPlace, IsSpoil, IsSpoilOf};
 ghost use Rattle.sw_message.specs.declared.spoil.Spoil.{Spoil as ASpoil};
 ghost use Rattle.sw_message.specs.declared.spoil.Spoil.TheVariants.{Fault};
 ghost use Rattle.sw_message.specs.declared.checking.Unread.TheVariants.{NoMemory as WantOfMemory, Spoiled};
@@ -15,7 +15,7 @@ use std::alloc::Global;
 use sw_archive::{Archive, ArchiveFault, read_archive};
 use sw_hashpath::Place;
 use sw_ring::Cluster;
-use sw_types::{NoMemory, Policy, Stamp};
+use sw_types::{Name, NoMemory, Policy, Stamp};
 use thiserror::Error;
 
 /// Why an archive was not read.
@@ -60,38 +60,52 @@ pub fn read_asked(
     ensures refused { IfErr result (λ unread. UnlessMemory WantOfMemory unread ((spoil : ASpoil) × (unread ≡ Spoiled spoil) × IsSpoil cluster.now place.now stamp index bytes.now spoil)) }
 {
     let archive = read_archive(alloc, bytes)?;
-    match difference(alloc, cluster, place, stamp, index, &archive)? {
+    if !is_of_place(alloc, cluster, place, &archive)? {
+        return Err(Unread::Spoiled(Spoil::Foreign(Foreign::Name)));
+    }
+    match difference(cluster.policy(), stamp, index, &archive) {
         Some(foreign) => Err(Unread::Spoiled(Spoil::Foreign(foreign))),
         None => Ok(archive),
     }
 }
 
-// The first thing in which an archive differs from what was asked for.
-fn difference(
+/// Reads the archive of a name, stamp and index under a policy.
+pub fn read_named(
     alloc: Global,
-    cluster: &Cluster,
-    place: &Place,
+    policy: &Policy,
+    name: &Name,
     stamp: Stamp,
     index: u32,
-    archive: &Archive,
-) -> Result<Option<Foreign>, NoMemory>
-    ensures { IfOk result (λ difference. MatchOption difference
-        (IsAsked (IsOfPlace cluster.now place.now) cluster.now.policy stamp index archive.now)
-        (Differs (IsOfPlace cluster.now place.now) cluster.now.policy stamp index archive.now)) }
+    bytes: &[u8],
+) -> Result<Archive, Unread>
+    ensures found { IfOk result (λ archive. IsArchive bytes.now archive × IsAsked (IsNamed name.now) policy.now stamp index archive) }
+    ensures reads { (archive : ArchiveModel) → IsArchive bytes.now archive → IsAsked (IsNamed name.now) policy.now stamp index archive → UnlessMemory (Err WantOfMemory) result (result ≡ Ok archive) }
+    ensures refused { IfErr result (λ unread. UnlessMemory WantOfMemory unread ((spoil : ASpoil) × (unread ≡ Spoiled spoil) × IsSpoilOf (IsNamed name.now) policy.now stamp index bytes.now spoil)) }
 {
-    if !is_of_place(alloc, cluster, place, archive)? {
-        return Ok(Some(Foreign::Name));
+    let archive = read_archive(alloc, bytes)?;
+    if !is_named(name, &archive) {
+        return Err(Unread::Spoiled(Spoil::Foreign(Foreign::Name)));
     }
+    match difference(policy, stamp, index, &archive) {
+        Some(foreign) => Err(Unread::Spoiled(Spoil::Foreign(foreign))),
+        None => Ok(archive),
+    }
+}
+
+// The first thing behind its name in which an archive differs from what was asked for.
+fn difference(policy: &Policy, stamp: Stamp, index: u32, archive: &Archive) -> Option<Foreign>
+    ensures { MatchOption result (IsAlike policy.now stamp index archive.now) (DiffersIn policy.now stamp index archive.now) }
+{
     if archive.stamp() != stamp {
-        return Ok(Some(Foreign::Stamp));
+        return Some(Foreign::Stamp);
     }
     if archive.index() != index {
-        return Ok(Some(Foreign::Index));
+        return Some(Foreign::Index);
     }
-    if !has_code(cluster.policy(), archive) {
-        return Ok(Some(Foreign::Code));
+    if !has_code(policy, archive) {
+        return Some(Foreign::Code);
     }
-    Ok(None)
+    None
 }
 
 // Whether the place of an archive's name is this one.
@@ -104,6 +118,13 @@ fn is_of_place(
     ensures { IfOk result (λ is_named. IsTrue is_named ↔ IsOfPlace cluster.now place.now archive.now.name) }
 {
     Ok(cluster.place(alloc, archive.name())? == *place)
+}
+
+// Whether an archive's name is this one.
+fn is_named(name: &Name, archive: &Archive) -> bool
+    ensures { IsTrue result ↔ IsNamed name.now archive.now.name }
+{
+    archive.name() == name
 }
 
 // Whether an archive has a policy's code and segment.

@@ -35,7 +35,7 @@ pub trait Operation {
     ghost left: { Self → ℕ };
 
     /// The next message. There is none where it has ended or waits for an answer. With each message it makes room for whatever
-    /// the answer will leave.
+    /// the answer will leave. Where memory is wanted it stands for what it stood for before.
     fn next(&mut self) -> Result<Option<Sent>, NoMemory>
         ensures hands { (begun : Begun) (past : List Step) → stands self.old begun past → IfOk result (λ handed. MatchOption handed
             ((machine begun past Over × (has_ended self.new ≡ true)) ⊎ (machine begun past Wait × IsTrue (is_waiting past) × (has_ended self.new ≡ false)))
@@ -45,7 +45,9 @@ pub trait Operation {
         ensures warranted { (begun : Begun) (past : List Step) (learnt : Learnt) → stands self.old begun past → HasOwn (own begun) learnt → AreKnown (cluster begun) learnt past →
             IfOk result (λ handed. IfSome handed (λ sent. IsWarranted (cluster begun) learnt sent.msg)) }
         ensures fewer { IfOk result (λ handed. MatchOption handed (left self.new ≡ left self.old) (λ sent. left self.new < left self.old)) }
-        ensures refused { OnErr result (self.new ≡ self.old) };
+        ensures refused { OnErr result ((begun : Begun) (past : List Step) → stands self.old begun past → stands self.new begun past) }
+        ensures refused_ended { OnErr result (has_ended self.new ≡ has_ended self.old) }
+        ensures refused_left { OnErr result (left self.new ≡ left self.old) };
 
     /// Takes the reply to a message. A ticket that is not open is ignored. It takes no memory.
     fn take(&mut self, ticket: u64, reply: Reply)
