@@ -1,5 +1,5 @@
 -- The order of names: it is total and tells all names different, and a search in it finds each name that is there.
-use Rattle.std.proofs.Common.{◌≡◌, ◌≢◌, ◌↔◌, inl, inr, ℕ, ◌<◌, ◌≤◌, ◌+◌, Bool, true, false, List, Contains, Option, Some, None, Result, Ok, Err, IsTrue, get_or, length, refl, sym, ap, ◌∙◌, subst, arith, rules}
+use Rattle.std.proofs.Common.{◌≡◌, ◌≢◌, ◌↔◌, inl, inr, ℕ, ◌+◌, Bool, true, false, List, Contains, Option, Some, None, Result, Ok, Err, IsTrue, get_or, length, refl, sym, ap, ◌∙◌, subst, arith, rules}
 use Rattle.std.specs.Bool.{Decides}
 use Rattle.std.specs.Cmp.{IsTotalOrder, bool_cmp_total}
 use Rattle.std.specs.Cmp.Lexicographic.{options_total}

@@ -1,4 +1,4 @@
-use Rattle.std.proofs.Common.{◌+◌, List, Vec, Global, take, sym, ap, subst, ◌∙◌, arith, rules}
+use Rattle.std.proofs.Common.{◌+◌, List, Vec, Global, take, sym, ap, subst, ◌∙◌, arith}
 use Rattle.std.proofs.lemmas.Option.{none-some}
 use Rattle.sw_hashdir.specs.Directory.{HasEntry}
 use Rattle.sw_hashdir.specs.declared.entry.Entry.{Entry}

@@ -1,4 +1,4 @@
-use Rattle.std.proofs.Common.{◌+◌, ℕ, List, Vec, Global, take, sym, ap, subst, ◌∙◌, arith, rules}
+use Rattle.std.proofs.Common.{◌+◌, ℕ, List, Vec, Global, take, sym, ap, subst, ◌∙◌, arith}
 use Rattle.std.specs.Bool.{⊤}
 use Rattle.sw_hashpath.specs.declared.file_name.FileName.TheVariants.{Tombstone}
 use Rattle.sw_hashdir.proofs.Listed.{AreKept, kept_here, kept_past, kept_whole}

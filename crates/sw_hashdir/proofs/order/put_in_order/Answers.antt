@@ -1,5 +1,4 @@
-use Rattle.std.proofs.Common.{rules, ◌≡◌}
-use Rattle.std.specs.Bool.{Decides}
+use Rattle.std.proofs.Common.{rules}
 use Rattle.std.proofs.lemmas.List.Filters.{dedup_is}
 use Rattle.sw_hashdir.specs.Order.{key_cmp, name_key}
 use Rattle.sw_hashdir.proofs.Listed.{sorted_by_key}
