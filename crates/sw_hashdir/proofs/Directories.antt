@@ -139,3 +139,21 @@ made_and_kept made names kept after is added = λ name. (
   λ there. ⊎_elim (λ here. inl here) (λ before. inr ((is name).0 before)) ((added name).0 there),
   λ stays. (added name).1 (⊎_elim (λ here. inl here) (λ before. inr ((is name).1 before)) stays),
 )
+
+-- ---- names put in order
+
+-- the names after one was pushed to them
+pub added : (made : FileName) (names pushed after : List FileName) → pushed ≡ names ++ made ∷ [] → ((name : FileName) → Contains after name ↔ Contains pushed name) → (name : FileName) → Contains after name ↔ ((name ≡ made) ⊎ Contains names name)
+added made names pushed after is same name = (
+  λ there. elim (Contains-push_cases names made name (subst (λ ns. Contains ns name) is ((same name).0 there))) [
+    | inl before ↦ inr before
+    | inr here ↦ inl (sym here)
+  ],
+  λ either. (same name).1 (subst (λ ns. Contains ns name) (sym is) (elim either [
+    | inl here ↦ subst (Contains (names ++ made ∷ [])) (sym here) (Contains-push names made)
+    | inr before ↦ Contains-append_left names (made ∷ []) name before
+  ])),
+)
+
+pub same_directory : (texts : List (List ℕ)) (names after : List FileName) → IsDirectory texts names → ((name : FileName) → Contains after name ↔ Contains names name) → IsDirectory texts after
+same_directory texts names after is same name = (λ there. (is name).0 ((same name).0 there), λ spelt. (same name).1 ((is name).1 spelt))

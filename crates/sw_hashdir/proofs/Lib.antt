@@ -3,4 +3,5 @@ mod Listed
 mod Listings
 mod Obsoletes
 mod Ordered
+mod Orders
 pub mod Texts

@@ -1,4 +1,4 @@
--- Elements kept of a list of different ones, and lists in order in which each element stands once.
+-- Elements kept of names in their order, and lists in order in which each element stands once.
 use Rattle.std.proofs.Common.{◌≡◌, ◌≢◌, ◌⊎◌, inl, inr, ℕ, ◌+◌, ◌<◌, ◌≤◌, false, List, [], ◌∷◌, ◌++◌, Contains, length, get_or, take, Bor, refl, sym, ap, subst, ◌∙◌, arith}
 use denote.Param.Members.{Mut}
 use Rattle.std.specs.Cmp.{IsTotalOrder}
@@ -10,23 +10,25 @@ use Rattle.std.specs.declared.cmp.Ordering.{Ordering}
 use Rattle.std.specs.declared.cmp.Ordering.TheVariants.{Less, Equal, Greater}
 use Rattle.std.proofs.lemmas.Bool.{cases_eq, cases_order}
 use Rattle.std.proofs.lemmas.Fn.{always_returns_same}
-use Rattle.std.proofs.lemmas.List.{get_or-take, length-take, take_all, take_more}
+use Rattle.std.proofs.lemmas.List.{get_or-take, get_or_default, length-take, take_all, take_more}
 use Rattle.std.proofs.lemmas.List.Edits.{Swapped, length-swap, swapped_from_swap}
 use Rattle.std.proofs.lemmas.List.Elements.{Contains-append_left, Contains-get_or, Contains-push, Contains-push_cases}
 use Rattle.std.proofs.lemmas.List.Quantifiers.{all_pairs_push}
-use Rattle.std.proofs.lemmas.List.Sorted.{Contains-permutation, IsPermutation-keeps, IsPermutation-sym, ranks_by, sorted_far}
+use Rattle.std.proofs.lemmas.List.Sorted.{IsPermutation-keeps, ranks_by, sorted_far}
+use Rattle.sw_hashpath.specs.declared.file_name.FileName.{FileName}
+use Rattle.sw_hashdir.specs.Order.{Ascend, name_cmp}
 
 -- ---- what is kept
 
--- each element with P whose name is among those seen, once
-pub record AreKept {X Y : Type 0} (name_of : Y → X) (P : Y → Type 0) (seen : List X) (kept : List Y) : Type 0 where
+-- each element with P whose name is among those seen, once, in the order of their names
+pub record AreKept {Y : Type 0} (name_of : Y → FileName) (P : Y → Type 0) (seen : List FileName) (kept : List Y) : Type 0 where
   pub found : (y : Y) → Contains kept y → P y × Contains seen (name_of y)
   pub all : (y : Y) → P y → Contains seen (name_of y) → Contains kept y
-  pub distinct : AllPairs (λ a b. a ≢ b) kept
+  pub ascend : AllPairs (λ a b. name_cmp (name_of a) (name_of b) ≡ Less) kept
 
 -- the next name gives an element
-pub kept_more : {X Y : Type 0} (name_of : Y → X) (P : Y → Type 0) → ((a b : Y) → name_of a ≡ name_of b → a ≡ b) → (seen : List X) (kept : List Y) (x : X) (y : Y) → (Contains seen x → ⊥) → AreKept name_of P seen kept → P y → name_of y ≡ x → AreKept name_of P (seen ++ x ∷ []) (kept ++ y ∷ [])
-kept_more name_of P one seen kept x y new so_far is named = record {
+pub kept_more : {Y : Type 0} (name_of : Y → FileName) (P : Y → Type 0) → ((a b : Y) → name_of a ≡ name_of b → a ≡ b) → (seen : List FileName) (kept : List Y) (x : FileName) (y : Y) → ((name : FileName) → Contains seen name → name_cmp name x ≡ Less) → AreKept name_of P seen kept → P y → name_of y ≡ x → AreKept name_of P (seen ++ x ∷ []) (kept ++ y ∷ [])
+kept_more name_of P one seen kept x y last so_far is named = record {
   found = λ other has. elim (Contains-push_cases kept y other has) [
     | inl before ↦ let both = so_far.found other before in (both.0, Contains-append_left seen (x ∷ []) (name_of other) both.1)
     | inr same ↦ (subst P same is, subst (Contains (seen ++ x ∷ [])) (sym named ∙ ap name_of same) (Contains-push seen x))
@@ -35,43 +37,45 @@ kept_more name_of P one seen kept x y new so_far is named = record {
     | inl before ↦ Contains-append_left kept (y ∷ []) other (so_far.all other holds before)
     | inr same ↦ subst (Contains (kept ++ y ∷ [])) (one y other (named ∙ same)) (Contains-push kept y)
   ];
-  distinct = all_pairs_push (λ a b. a ≢ b) kept y so_far.distinct (λ k d within same.
-      new (subst (Contains seen) (ap name_of same ∙ named) (so_far.found (get_or kept k d) (Contains-get_or kept k d within)).1));
+  ascend = all_pairs_push (λ a b. name_cmp (name_of a) (name_of b) ≡ Less) kept y so_far.ascend (λ k d within.
+      subst (λ name. name_cmp (name_of (get_or kept k d)) name ≡ Less) (sym named) (last (name_of (get_or kept k d)) (so_far.found (get_or kept k d) (Contains-get_or kept k d within)).1));
 }
 
 -- the next name gives none
-pub kept_same : {X Y : Type 0} (name_of : Y → X) (P : Y → Type 0) (seen : List X) (kept : List Y) (x : X) → ((y : Y) → P y → name_of y ≡ x → ⊥) → AreKept name_of P seen kept → AreKept name_of P (seen ++ x ∷ []) kept
+pub kept_same : {Y : Type 0} (name_of : Y → FileName) (P : Y → Type 0) (seen : List FileName) (kept : List Y) (x : FileName) → ((y : Y) → P y → name_of y ≡ x → ⊥) → AreKept name_of P seen kept → AreKept name_of P (seen ++ x ∷ []) kept
 kept_same name_of P seen kept x none so_far = record {
   found = λ other has. let both = so_far.found other has in (both.0, Contains-append_left seen (x ∷ []) (name_of other) both.1);
   all = λ other holds has. elim (Contains-push_cases seen x (name_of other) has) [
     | inl before ↦ so_far.all other holds before
     | inr same ↦ absurd (none other holds (sym same))
   ];
-  distinct = so_far.distinct;
+  ascend = so_far.ascend;
 }
 
--- an element of different ones does not stand before its place
-pub is_new : {X : Type 0} (xs : List X) (n : ℕ) (x : X) → AllPairs (λ a b. a ≢ b) xs → n < length xs → x ≡ get_or xs n x → Contains (take n xs) x → ⊥
-is_new xs n x different within is has =
+-- of names in their order, one stands after each before its place
+is_last : (xs : List FileName) (n : ℕ) (x : FileName) → Ascend xs → n < length xs → x ≡ get_or xs n x → (name : FileName) → Contains (take n xs) name → name_cmp name x ≡ Less
+is_last xs n x up within is name has =
     let below : has.0 < n = omega (arith, has.1, length-take n xs) in
-    different has.0 n x below within (sym (get_or-take n xs has.0 x below) ∙ has.2 ∙ is)
+    let first : get_or xs has.0 name ≡ name = sym (get_or-take n xs has.0 name below) ∙ has.2 in
+    let second : get_or xs n name ≡ x = get_or_default xs n name x within ∙ sym is in
+    subst (λ a. name_cmp a x ≡ Less) first (subst (λ b. name_cmp (get_or xs has.0 name) b ≡ Less) second (up has.0 n name below within))
 
-next_seen : {X : Type 0} (xs : List X) (n : ℕ) (x : X) → n < length xs → x ≡ get_or xs n x → take (n + 1) xs ≡ take n xs ++ x ∷ []
+next_seen : (xs : List FileName) (n : ℕ) (x : FileName) → n < length xs → x ≡ get_or xs n x → take (n + 1) xs ≡ take n xs ++ x ∷ []
 next_seen xs n x within is = take_more xs n x within ∙ ap (λ y. take n xs ++ y ∷ []) (sym is)
 
 -- a step of a loop that keeps an element
-pub kept_here : {X Y : Type 0} (name_of : Y → X) (P : Y → Type 0) → ((a b : Y) → name_of a ≡ name_of b → a ≡ b) → (xs : List X) (n : ℕ) (kept after : List Y) (x : X) (y : Y) → AllPairs (λ a b. a ≢ b) xs → n < length xs → x ≡ get_or xs n x → AreKept name_of P (take n xs) kept → P y → name_of y ≡ x → after ≡ kept ++ y ∷ [] → AreKept name_of P (take (n + 1) xs) after
-kept_here name_of P one xs n kept after x y different within is so_far holds named pushed =
+pub kept_here : {Y : Type 0} (name_of : Y → FileName) (P : Y → Type 0) → ((a b : Y) → name_of a ≡ name_of b → a ≡ b) → (xs : List FileName) (n : ℕ) (kept after : List Y) (x : FileName) (y : Y) → Ascend xs → n < length xs → x ≡ get_or xs n x → AreKept name_of P (take n xs) kept → P y → name_of y ≡ x → after ≡ kept ++ y ∷ [] → AreKept name_of P (take (n + 1) xs) after
+kept_here name_of P one xs n kept after x y up within is so_far holds named pushed =
     subst (AreKept name_of P (take (n + 1) xs)) (sym pushed) (subst (λ seen. AreKept name_of P seen (kept ++ y ∷ [])) (sym (next_seen xs n x within is))
-    (kept_more name_of P one (take n xs) kept x y (is_new xs n x different within is) so_far holds named))
+    (kept_more name_of P one (take n xs) kept x y (is_last xs n x up within is) so_far holds named))
 
 -- a step of a loop that keeps none
-pub kept_past : {X Y : Type 0} (name_of : Y → X) (P : Y → Type 0) (xs : List X) (n : ℕ) (kept : List Y) (x : X) → n < length xs → x ≡ get_or xs n x → ((y : Y) → P y → name_of y ≡ x → ⊥) → AreKept name_of P (take n xs) kept → AreKept name_of P (take (n + 1) xs) kept
+pub kept_past : {Y : Type 0} (name_of : Y → FileName) (P : Y → Type 0) (xs : List FileName) (n : ℕ) (kept : List Y) (x : FileName) → n < length xs → x ≡ get_or xs n x → ((y : Y) → P y → name_of y ≡ x → ⊥) → AreKept name_of P (take n xs) kept → AreKept name_of P (take (n + 1) xs) kept
 kept_past name_of P xs n kept x within is none so_far =
     subst (λ seen. AreKept name_of P seen kept) (sym (next_seen xs n x within is)) (kept_same name_of P (take n xs) kept x none so_far)
 
 -- and its end
-pub kept_whole : {X Y : Type 0} (name_of : Y → X) (P : Y → Type 0) (xs : List X) (n : ℕ) (kept : List Y) → length xs ≤ n → AreKept name_of P (take n xs) kept → AreKept name_of P xs kept
+pub kept_whole : {Y : Type 0} (name_of : Y → FileName) (P : Y → Type 0) (xs : List FileName) (n : ℕ) (kept : List Y) → length xs ≤ n → AreKept name_of P (take n xs) kept → AreKept name_of P xs kept
 kept_whole name_of P xs n kept past so_far = subst (λ seen. AreKept name_of P seen kept) (take_all n xs past) so_far
 
 -- ---- order
@@ -116,14 +120,6 @@ swap_distinct xs i j first second different p q d lt within same =
 
 pub distinct_permuted : {X : Type 0} (xs ys : List X) → IsPermutation xs ys → AllPairs (λ a b. a ≢ b) xs → AllPairs (λ a b. a ≢ b) ys
 distinct_permuted xs ys moved different = IsPermutation-keeps xs (AllPairs (λ a b. a ≢ b)) different swap_distinct ys moved
-
--- what is kept in another order
-pub kept_permuted : {X Y : Type 0} (name_of : Y → X) (P : Y → Type 0) (seen : List X) (kept sorted : List Y) → IsPermutation kept sorted → AreKept name_of P seen kept → AreKept name_of P seen sorted
-kept_permuted name_of P seen kept sorted moved so_far = record {
-  found = λ y has. so_far.found y (Contains-permutation sorted kept y (IsPermutation-sym kept sorted moved) has);
-  all = λ y holds has. Contains-permutation kept sorted y moved (so_far.all y holds has);
-  distinct = distinct_permuted kept sorted moved so_far.distinct;
-}
 
 less_from : (o p : Ordering) → o ≡ ordering_reverse p → is_lt p ≡ false → (o ≡ Equal → ⊥) → o ≡ Less
 less_from Less p same up differ = refl

@@ -1,18 +1,20 @@
--- Entries of names, and the order in which they are listed.
+-- Entries and tombstones of names, and the order in which they are listed.
 use Rattle.std.proofs.Common.{◌≡◌, ◌⊎◌, inl, inr, ◌↔◌, ℕ, ◌<◌, false, List, get_or, Contains, refl, ap, subst, arith}
-use Rattle.std.specs.Cmp.{IsTotalOrder}
+use Rattle.std.specs.Cmp.{bool_cmp_total}
 use Rattle.std.specs.List.{AllPairs}
-use Rattle.std.specs.Ordering.{nat_cmp, ordering_then}
+use Rattle.std.specs.Ordering.{bool_cmp, nat_cmp, ordering_then}
 use Rattle.std.specs.declared.cmp.Ordering.{Ordering}
 use Rattle.std.specs.declared.cmp.Ordering.TheVariants.{Less, Equal, Greater}
 use Rattle.std.proofs.lemmas.Bool.Decides.{nat_tests}
-use Rattle.std.proofs.lemmas.Cmp.{nat_cmp_total, on_total, then_total}
+use Rattle.std.proofs.lemmas.Cmp.{tied_itself}
+use Rattle.std.proofs.lemmas.List.Elements.{Contains-get_or}
 use Rattle.std.proofs.lemmas.Map.Lookups.{exact_unsigned}
 use Rattle.sw_hashpath.specs.declared.file_name.FileName.{FileName}
 use Rattle.sw_hashpath.specs.declared.file_name.FileName.TheVariants.{Data, Tombstone}
 use Rattle.sw_hashdir.specs.Directory.{HasEntry, HasEntryAt}
 use Rattle.sw_hashdir.specs.Laws.{entry_there, one_durable}
 use Rattle.sw_hashdir.specs.Listing.{IsBefore, IsListingOf, ListingModel}
+use Rattle.sw_hashdir.specs.Order.{entry_key_cmp, name_cmp}
 use Rattle.sw_hashdir.specs.declared.entry.Entry.{Entry}
 
 -- the name that lists an entry
@@ -37,41 +39,37 @@ has_name names entry has = entry_there names entry.stamp entry.index entry.durab
 pub nat_less : (a b : ℕ) → nat_cmp a b ≡ Less → a < b
 nat_less a b less = grind (arith, nat_tests)
 
--- by stamp, and then by index
-abbrev pub entry_cmp : Entry → Entry → Ordering
-entry_cmp a b = ordering_then (nat_cmp a.stamp b.stamp) (nat_cmp a.index b.index)
-
-pub entry_order : IsTotalOrder entry_cmp
-entry_order = then_total (on_total (λ (entry : Entry). entry.stamp) nat_cmp_total) (on_total (λ (entry : Entry). entry.index) nat_cmp_total)
-
 then_less : (o p : Ordering) → ordering_then o p ≡ Less → (o ≡ Less) ⊎ ((o ≡ Equal) × (p ≡ Less))
 then_less Less p less = inl refl
 then_less Equal p less = inr (refl, less)
 then_less Greater p less = absurd (cc)
 
-then_equal : (o p : Ordering) → ordering_then o p ≡ Equal → (o ≡ Equal) × (p ≡ Equal)
-then_equal Less p tie = absurd (cc)
-then_equal Equal p tie = (refl, tie)
-then_equal Greater p tie = absurd (cc)
-
-entry_before : (a b : Entry) → entry_cmp a b ≡ Less → IsBefore a b
-entry_before a b less = elim (then_less (nat_cmp a.stamp b.stamp) (nat_cmp a.index b.index) less) [
-  | inl first ↦ inl (nat_less a.stamp b.stamp first)
-  | inr both ↦ inr (exact_unsigned a.stamp b.stamp both.0, nat_less a.index b.index both.1)
+-- entries of the same names ascend as their names do
+entry_before : (names : List FileName) (a b : Entry) → HasEntry names a → HasEntry names b → name_cmp (entry_name a) (entry_name b) ≡ Less → IsBefore a b
+entry_before names a b first second less = elim (then_less (nat_cmp a.stamp b.stamp) (entry_key_cmp (a.index, a.durable) (b.index, b.durable)) less) [
+  | inl older ↦ inl (nat_less a.stamp b.stamp older)
+  | inr level ↦
+      let stamp : a.stamp ≡ b.stamp = exact_unsigned a.stamp b.stamp level.0 in
+      elim (then_less (nat_cmp a.index b.index) (bool_cmp a.durable b.durable) level.1) [
+        | inl lower ↦ inr (stamp, nat_less a.index b.index lower)
+        | inr both ↦
+            let index : a.index ≡ b.index = exact_unsigned a.index b.index both.0 in
+            let there = subst (λ i. HasEntryAt names b.stamp i a.durable) index (subst (λ s. HasEntryAt names s a.index a.durable) stamp first) in
+            let durable : a.durable ≡ b.durable = one_durable names b.stamp b.index a.durable b.durable there second in
+            let tie = subst (λ d. bool_cmp a.durable d ≡ Equal) durable (tied_itself bool_cmp_total a.durable) in
+            absurd (cc)
+      ]
 ]
 
-pub entries_before : (entries : List Entry) → AllPairs (λ a b. entry_cmp a b ≡ Less) entries → AllPairs IsBefore entries
-entries_before entries up i j d lt within = entry_before (get_or entries i d) (get_or entries j d) (up i j d lt within)
+pub entries_before : (names : List FileName) (entries : List Entry) → ((entry : Entry) → Contains entries entry → HasEntry names entry) → AllPairs (λ a b. name_cmp (entry_name a) (entry_name b) ≡ Less) entries → AllPairs IsBefore entries
+entries_before names entries are up i j d lt within =
+    entry_before names (get_or entries i d) (get_or entries j d) (are (get_or entries i d) (Contains-get_or entries i d (omega arith))) (are (get_or entries j d) (Contains-get_or entries j d within)) (up i j d lt within)
 
--- entries of the same names that tie are the same
-pub entry_ties : (names : List FileName) (a b : Entry) → HasEntry names a → HasEntry names b → entry_cmp a b ≡ Equal → a ≡ b
-entry_ties names a b first second tie =
-    let both = then_equal (nat_cmp a.stamp b.stamp) (nat_cmp a.index b.index) tie in
-    let stamp : a.stamp ≡ b.stamp = exact_unsigned a.stamp b.stamp both.0 in
-    let index : a.index ≡ b.index = exact_unsigned a.index b.index both.1 in
-    let moved = subst (λ s. HasEntryAt names s a.index a.durable) stamp first in
-    let durable : a.durable ≡ b.durable = one_durable names b.stamp b.index a.durable b.durable (subst (λ i. HasEntryAt names b.stamp i a.durable) index moved) second in
-    one_entry a b (cc)
+pub tombstones_before : (stamps : List ℕ) → AllPairs (λ a b. name_cmp (Tombstone a) (Tombstone b) ≡ Less) stamps → AllPairs (λ a b. a < b) stamps
+tombstones_before stamps up i j d lt within = elim (then_less (nat_cmp (get_or stamps i d) (get_or stamps j d)) Equal (up i j d lt within)) [
+  | inl less ↦ nat_less (get_or stamps i d) (get_or stamps j d) less
+  | inr both ↦ let less = both.1 in absurd (cc)
+]
 
 -- a listing by its parts, of which each is of the same names
 pub listing_is : (names first second : List FileName) (listing : ListingModel) → first ≡ names → second ≡ names → ((entry : Entry) → Contains listing.entries entry ↔ HasEntry first entry) → AllPairs IsBefore listing.entries → ((stamp : ℕ) → Contains listing.tombstones stamp ↔ Contains second (Tombstone stamp)) → AllPairs (λ a b. a < b) listing.tombstones → IsListingOf names listing

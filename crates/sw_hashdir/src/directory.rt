@@ -10,29 +10,30 @@ ghost use Rattle.sw_hashdir.specs.Obsolete.{IsAfter, IsWithout, Replaces};
 
 use crate::entry::Entry;
 use crate::floor::{Floor, FloorKind};
+use crate::order::{has, put_in_order};
 use std::alloc::Global;
 use std::marker::Model;
 use sw_hashpath::FileName;
 use sw_types::{NoMemory, Stamp};
 
-/// The directory of a folder: the names of its files, each once.
+/// The directory of a folder: the names of its files, each once, in an order of its own.
 #[derive(Debug, Drop)]
 pub struct HashDir {
     pub(crate) names: Vec<FileName>,
 }
 
 impl Model for HashDir {
-    ghost use Rattle.std.specs.Prelude.{◌≢◌, List, Contains};
-    ghost use Rattle.std.specs.List.{AllPairs};
+    ghost use Rattle.std.specs.Prelude.{List, Contains};
     ghost use Rattle.sw_hashpath.specs.FileName.{IsFileName};
     ghost use Rattle.sw_hashpath.specs.declared.file_name.FileName.{FileName as AFileName};
+    ghost use Rattle.sw_hashdir.specs.Order.{Ascend};
 
     ghost Value = { List AFileName };
 
     ghost view = { λ dir. dir.names.items };
 
     ghost invariant = { λ dir. record {
-      distinct : AllPairs (λ a b. a ≢ b) dir.names.items;
+      ascend : Ascend dir.names.items;
       named : (name : AFileName) → Contains dir.names.items name → IsFileName name;
     } };
 }
@@ -45,9 +46,10 @@ impl HashDir {
         let mut names = Vec::new(alloc);
         for text in texts {
             if let Some(name) = FileName::read(text.as_str()) {
-                add(&mut names, name)?;
+                names.push(name)?;
             }
         }
+        put_in_order(&mut names);
         Ok(HashDir { names })
     }
 
@@ -71,10 +73,11 @@ impl HashDir {
         let plain = plain_of(&made);
         for name in &self.names {
             if plain != Some(*name) {
-                add(&mut names, *name)?;
+                names.push(*name)?;
             }
         }
-        add(&mut names, made)?;
+        names.push(made)?;
+        put_in_order(&mut names);
         Ok(HashDir { names })
     }
 
@@ -102,14 +105,14 @@ impl HashDir {
             index,
             durable,
         };
-        if self.names.contains(&named(true)) {
+        if has(&self.names, &named(true)) {
             return Some(Entry {
                 stamp,
                 index,
                 durable: true,
             });
         }
-        if self.names.contains(&named(false)) {
+        if has(&self.names, &named(false)) {
             return Some(Entry {
                 stamp,
                 index,
@@ -123,19 +126,8 @@ impl HashDir {
     pub fn has_tombstone(&self, stamp: Stamp) -> bool
         ensures { IsTrue result ↔ Contains self.now (Tombstone stamp) }
     {
-        self.names.contains(&FileName::Tombstone { stamp })
+        has(&self.names, &FileName::Tombstone { stamp })
     }
-}
-
-// Adds a name that is not there.
-fn add(names: &mut Vec<FileName>, name: FileName) -> Result<(), NoMemory>
-    ensures names { IfOk result (λ _. (other : AFileName) → Contains names.new.items other ↔ ((other ≡ name) ⊎ Contains names.old.items other)) }
-    ensures distinct { IfOk result (λ _. AllPairs (λ a b. a ≢ b) names.old.items → AllPairs (λ a b. a ≢ b) names.new.items) }
-{
-    if !names.contains(&name) {
-        names.push(name)?;
-    }
-    Ok(())
 }
 
 // The floor that a name alone would be.

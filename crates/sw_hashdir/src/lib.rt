@@ -6,6 +6,7 @@ mod entry;
 mod floor;
 mod listing;
 mod obsolete;
+mod order;
 
 pub use crate::directory::HashDir;
 pub use crate::entry::Entry;

@@ -1,14 +1,16 @@
 //! What a directory lists.
 
-ghost use Rattle.std.specs.Prelude.{◌≡◌, ◌≢◌, ◌↔◌, ◌<◌, ℕ, Contains, IfOk, Some};
+ghost use Rattle.std.specs.Prelude.{◌≡◌, ◌↔◌, ◌<◌, ℕ, Contains, IfOk, Some};
 ghost use Rattle.std.specs.List.{AllPairs};
 ghost use Rattle.sw_hashpath.specs.declared.file_name.FileName.TheVariants.{Data, Tombstone};
 ghost use Rattle.sw_hashdir.specs.Directory.{HasEntry};
 ghost use Rattle.sw_hashdir.specs.Listing.{IsBefore, IsListingOf};
+ghost use Rattle.sw_hashdir.specs.Order.{Ascend};
 ghost use Rattle.sw_hashdir.specs.declared.entry.Entry.{Entry as AEntry};
 
 use crate::directory::HashDir;
 use crate::entry::Entry;
+use crate::order::has;
 use std::alloc::Global;
 use std::marker::Model;
 use sw_hashpath::FileName;
@@ -57,9 +59,9 @@ impl HashDir {
     }
 }
 
-// The entries of different names.
+// The entries of names in their order.
 fn entries_of(alloc: Global, names: &[FileName]) -> Result<Vec<Entry>, NoMemory>
-    requires { AllPairs (λ a b. a ≢ b) names.now }
+    requires { Ascend names.now }
     ensures all { IfOk result (λ entries. (entry : AEntry) → Contains entries.items entry ↔ HasEntry names.now entry) }
     ensures ascend { IfOk result (λ entries. AllPairs IsBefore entries.items) }
 {
@@ -69,13 +71,13 @@ fn entries_of(alloc: Global, names: &[FileName]) -> Result<Vec<Entry>, NoMemory>
             entries.push(entry)?;
         }
     }
-    entries.sort_unstable_by_key(|entry| (entry.stamp.units(), entry.index));
     Ok(entries)
 }
 
 // The entry that a name gives. A plain name gives none where its durable one is there.
 fn entry_of(names: &[FileName], name: &FileName) -> Option<Entry>
-    requires { Contains names.now name.now }
+    requires ascend { Ascend names.now }
+    requires name { Contains names.now name.now }
     ensures { (entry : AEntry) → result ≡ Some entry ↔ (HasEntry names.now entry × (Data entry.stamp entry.index entry.durable ≡ name.now)) }
 {
     match *name {
@@ -89,7 +91,7 @@ fn entry_of(names: &[FileName], name: &FileName) -> Option<Entry>
                 index,
                 durable: true,
             };
-            if durable || !names.contains(&marked) {
+            if durable || !has(names, &marked) {
                 Some(Entry {
                     stamp,
                     index,
@@ -103,9 +105,9 @@ fn entry_of(names: &[FileName], name: &FileName) -> Option<Entry>
     }
 }
 
-// The stamps of the tombstones of different names.
+// The stamps of the tombstones of names in their order.
 fn tombstones_of(alloc: Global, names: &[FileName]) -> Result<Vec<Stamp>, NoMemory>
-    requires { AllPairs (λ a b. a ≢ b) names.now }
+    requires { Ascend names.now }
     ensures all { IfOk result (λ stamps. (stamp : ℕ) → Contains stamps.items stamp ↔ Contains names.now (Tombstone stamp)) }
     ensures ascend { IfOk result (λ stamps. AllPairs (λ a b. a < b) stamps.items) }
 {
@@ -115,6 +117,5 @@ fn tombstones_of(alloc: Global, names: &[FileName]) -> Result<Vec<Stamp>, NoMemo
             stamps.push(stamp)?;
         }
     }
-    stamps.sort_unstable_by_key(|stamp| stamp.units());
     Ok(stamps)
 }

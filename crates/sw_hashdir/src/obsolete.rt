@@ -7,9 +7,11 @@ ghost use Rattle.sw_hashpath.specs.declared.file_name.FileName.{FileName as AFil
 ghost use Rattle.sw_hashdir.specs.Directory.{IsFloor};
 ghost use Rattle.sw_hashdir.specs.Listing.{IsTextBefore};
 ghost use Rattle.sw_hashdir.specs.Obsolete.{IsBelow, IsObsolete, IsTwin};
+ghost use Rattle.sw_hashdir.specs.Order.{Ascend};
 
 use crate::directory::HashDir;
 use crate::floor::Floor;
+use crate::order::has;
 use std::alloc::Global;
 use sw_hashpath::FileName;
 use sw_types::NoMemory;
@@ -34,6 +36,7 @@ impl HashDir {
 
 // Whether one of the names is obsolete at this role.
 fn is_obsolete(names: &[FileName], floor: &Option<Floor>, is_primary: bool, name: &FileName) -> bool
+    requires ascend { Ascend names.now }
     requires name { Contains names.now name.now }
     requires floor { IsFloor names.now floor.now }
     ensures { IsTrue result ↔ IsObsolete is_primary names.now name.now }
@@ -43,6 +46,7 @@ fn is_obsolete(names: &[FileName], floor: &Option<Floor>, is_primary: bool, name
 
 // Whether it is the plain name of an entry that has its durable one.
 fn is_twin(names: &[FileName], name: &FileName) -> bool
+    requires { Ascend names.now }
     ensures { IsTrue result ↔ IsTwin names.now name.now }
 {
     match *name {
@@ -50,11 +54,14 @@ fn is_twin(names: &[FileName], name: &FileName) -> bool
             stamp,
             index,
             durable: false,
-        } => names.contains(&FileName::Data {
-            stamp,
-            index,
-            durable: true,
-        }),
+        } => has(
+            names,
+            &FileName::Data {
+                stamp,
+                index,
+                durable: true,
+            },
+        ),
         _ => false,
     }
 }

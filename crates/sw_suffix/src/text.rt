@@ -9,9 +9,9 @@ use md5::{Digest, Md5};
 use sw_hashdir::{Floor, FloorKind};
 use sw_hashpath::Place;
 
-/// The hash of a suffix folder: the MD5 of the lines of the floors in it, in their order. The line of a hash folder is the
-/// 32 digits of its hash, a space, the text of its floor's stamp, `.data` or for a tombstone `.ts`, and a line feed. It
-/// takes no memory.
+/// The hash of a suffix folder: the MD5 of the lines of the floors in it. The line of a hash folder is the 32 digits of its
+/// hash, a space, the text of its floor's stamp, `.data` or for a tombstone `.ts`, and a line feed. The lines are hashed in
+/// the order in which the floors are given; the format wants them ascending by hash. It takes no memory.
 pub fn suffix_hash(floors: &[(Place, Floor)]) -> [u8; 16]
     ensures { result ≡ md5 (suffix_text floors.now) }
 {

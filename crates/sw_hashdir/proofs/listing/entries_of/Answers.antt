@@ -1,12 +1,11 @@
-use Rattle.std.proofs.Common.{◌+◌, List, Vec, Global, take, sym, ap, subst, ◌∙◌, arith, rules}
+use Rattle.std.proofs.Common.{◌+◌, List, Vec, Global, take, sym, ap, subst, ◌∙◌, arith}
 use Rattle.std.proofs.lemmas.Option.{none-some}
-use Rattle.std.specs.Ordering.{nat_cmp, ordering_then}
 use Rattle.sw_hashdir.specs.Directory.{HasEntry}
 use Rattle.sw_hashdir.specs.declared.entry.Entry.{Entry}
-use Rattle.sw_hashdir.proofs.Listed.{AreKept, kept_here, kept_past, kept_permuted, kept_whole, sorted_by_key, strictly}
-use Rattle.sw_hashdir.proofs.Listings.{entries_before, entry_name, entry_order, entry_ties, has_name, one_entry}
+use Rattle.sw_hashdir.proofs.Listed.{AreKept, kept_here, kept_past, kept_whole}
+use Rattle.sw_hashdir.proofs.Listings.{entries_before, entry_name, has_name, one_entry}
 use Rattle.sw_hashdir.proofs.listing.entries_of.Goals as goal
-use Rattle.sw_hashdir.proofs.listing.entries_of.Goals.{After-sort_unstable_by_key, in-Some+in_ok-push, in_default}
+use Rattle.sw_hashdir.proofs.listing.entries_of.Goals.{After-loop-name, in-Some+in_ok-push, in_default}
 
 abbrev items_of : Vec Entry Global → List Entry
 items_of v = v.items
@@ -22,17 +21,15 @@ loop-name-preserved c = elim c.match-entry_of.branch [
       (λ entry holds named. none-some entry (sym w.in_default.is ∙ (c.entry_of.ensures entry).1 (holds, named))) c.loop-name.invariant)
 ]
 
-kept : (c : After-sort_unstable_by_key) → AreKept entry_name (HasEntry c.args.names.now) c.args.names.now c.sort_unstable_by_key.new.self.items
-kept c = kept_permuted _ _ _ _ _ c.sort_unstable_by_key.ensures.permutation (kept_whole _ _ c.args.names.now c.loop-name.name-index c.loop-name.entries.items (omega arith) c.loop-name.invariant)
+kept : (c : After-loop-name) → AreKept entry_name (HasEntry c.args.names.now) c.args.names.now c.loop-name.entries.items
+kept c = kept_whole _ _ c.args.names.now c.loop-name.name-index c.loop-name.entries.items (omega arith) c.loop-name.invariant
 
 pub returns-clause-all : goal.returns-clause-all
 returns-clause-all c = λ entry.
-    let whole = kept (goal.at.returns-clause-all c).After-sort_unstable_by_key in
+    let whole = kept (goal.at.returns-clause-all c).After-loop-name in
     (λ has. (whole.found entry has).0, λ has. whole.all entry has (has_name c.args.names.now entry has))
 
 pub returns-clause-ascend : goal.returns-clause-ascend
 returns-clause-ascend c =
-    let whole = kept (goal.at.returns-clause-ascend c).After-sort_unstable_by_key in
-    let sorted = sorted_by_key (λ (entry : Entry). (entry.stamp, entry.index)) (λ a b. ordering_then (nat_cmp a.0 b.0) (nat_cmp a.1 b.1)) _ c.sort_unstable_by_key.ensures.sorted (λ a r q k. search rules) in
-    entries_before c.sort_unstable_by_key.new.self.items (strictly entry_order _ sorted whole.distinct
-    (λ a b first second tie. entry_ties c.args.names.now a b (whole.found a first).0 (whole.found b second).0 tie))
+    let whole = kept (goal.at.returns-clause-ascend c).After-loop-name in
+    entries_before c.args.names.now c.loop-name.entries.items (λ entry has. (whole.found entry has).0) whole.ascend

@@ -1,13 +1,10 @@
-use Rattle.std.proofs.Common.{◌+◌, ℕ, List, Vec, Global, take, sym, ap, subst, ◌∙◌, arith, rules}
+use Rattle.std.proofs.Common.{◌+◌, ℕ, List, Vec, Global, take, sym, ap, subst, ◌∙◌, arith}
 use Rattle.std.specs.Bool.{⊤}
-use Rattle.std.specs.Ordering.{nat_cmp}
-use Rattle.std.proofs.lemmas.Cmp.{nat_cmp_total}
 use Rattle.sw_hashpath.specs.declared.file_name.FileName.TheVariants.{Tombstone}
-use Rattle.sw_hashdir.proofs.Listed.{AreKept, kept_here, kept_past, kept_permuted, kept_whole, sorted_by_key, strictly}
-use Rattle.std.proofs.lemmas.Map.Lookups.{exact_unsigned}
-use Rattle.sw_hashdir.proofs.Listings.{nat_less, one_tombstone}
+use Rattle.sw_hashdir.proofs.Listed.{AreKept, kept_here, kept_past, kept_whole}
+use Rattle.sw_hashdir.proofs.Listings.{one_tombstone, tombstones_before}
 use Rattle.sw_hashdir.proofs.listing.tombstones_of.Goals as goal
-use Rattle.sw_hashdir.proofs.listing.tombstones_of.Goals.{After-sort_unstable_by_key, in-Tombstone+in_ok-push, in_default}
+use Rattle.sw_hashdir.proofs.listing.tombstones_of.Goals.{After-loop-name, in-Tombstone+in_ok-push, in_default}
 
 abbrev items_of : Vec ℕ Global → List ℕ
 items_of v = v.items
@@ -21,15 +18,13 @@ loop-name-preserved c = elim c.match-name.branch [
       (λ stamp holds named. w.in_default.not-Tombstone stamp (sym named)) c.loop-name.invariant)
 ]
 
-kept : (c : After-sort_unstable_by_key) → AreKept (λ stamp. Tombstone stamp) (λ stamp. ⊤) c.args.names.now c.sort_unstable_by_key.new.self.items
-kept c = kept_permuted _ _ _ _ _ c.sort_unstable_by_key.ensures.permutation (kept_whole _ _ c.args.names.now c.loop-name.name-index c.loop-name.stamps.items (omega arith) c.loop-name.invariant)
+kept : (c : After-loop-name) → AreKept (λ stamp. Tombstone stamp) (λ stamp. ⊤) c.args.names.now c.loop-name.stamps.items
+kept c = kept_whole _ _ c.args.names.now c.loop-name.name-index c.loop-name.stamps.items (omega arith) c.loop-name.invariant
 
 pub returns-clause-all : goal.returns-clause-all
 returns-clause-all c = λ stamp.
-    let whole = kept (goal.at.returns-clause-all c).After-sort_unstable_by_key in
+    let whole = kept (goal.at.returns-clause-all c).After-loop-name in
     (λ has. (whole.found stamp has).1, λ has. whole.all stamp tt has)
 
 pub returns-clause-ascend : goal.returns-clause-ascend
-returns-clause-ascend c = λ i j d lt within.
-    let whole = kept (goal.at.returns-clause-ascend c).After-sort_unstable_by_key in
-    nat_less _ _ (strictly nat_cmp_total _ (sorted_by_key (λ (stamp : ℕ). stamp) nat_cmp _ c.sort_unstable_by_key.ensures.sorted (λ a r q k. search rules)) whole.distinct (λ a b first second tie. exact_unsigned a b tie) i j d lt within)
+returns-clause-ascend c = tombstones_before c.loop-name.stamps.items (kept (goal.at.returns-clause-ascend c).After-loop-name).ascend

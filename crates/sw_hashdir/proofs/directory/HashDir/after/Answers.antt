@@ -1,10 +1,11 @@
-use Rattle.std.proofs.Common.{rules, ◌≡◌, ◌+◌, ◌++◌, ◌∷◌, [], true, false, Some, ⊎_elim, List, take, sym, ap, ◌∙◌, subst}
+use Rattle.std.proofs.Common.{rules, ◌≡◌, ◌+◌, ◌++◌, ◌∷◌, [], true, false, Some, ⊎_elim, List, Contains, take, sym, ap, ◌∙◌, subst}
 use Rattle.std.proofs.lemmas.List.{take_all, take_more}
 use Rattle.sw_hashpath.specs.FileName.{IsFileName}
 use Rattle.sw_hashpath.specs.declared.file_name.FileName.{FileName}
-use Rattle.sw_hashdir.proofs.Directories.{IsKept, kept_too, made_and_kept, replaced}
+use Rattle.sw_hashdir.specs.Obsolete.{IsAfter}
+use Rattle.sw_hashdir.proofs.Directories.{IsKept, added, kept_too, made_and_kept, replaced}
 use Rattle.sw_hashdir.proofs.directory.HashDir.after.Goals as goal
-use Rattle.sw_hashdir.proofs.directory.HashDir.after.Goals.{After-ne, then-ne+in_ok-add, else-ne}
+use Rattle.sw_hashdir.proofs.directory.HashDir.after.Goals.{After-ne, After-put_in_order, then-ne+in_ok-push, else-ne}
 use borrow.Author.Tests.{tests}
 
 other_name : (c : After-ne) → c.ne.result ≡ true → c.plain_of-plain.result ≡ Some c.name-item.result → ⊥
@@ -26,32 +27,31 @@ loop-name-preserved c =
     let more = one_more ne in
     let names = take c.loop-name.name-index c.deref-name-items.result.now in
     elim c.if-ne.branch [
-      | then-ne+in_ok-add w ↦ rw (w.names-is, more) (record {
-        distinct = w.in_ok-add.ensures.distinct c.loop-name.invariant.distinct;
-        kept = kept_too c.args.made names c.name-item.result c.loop-name.names.items c.loop-name.invariant.kept w.add.new.names.items
-            (λ gone. other_name ne w.if-ne.true ((c.plain_of-plain.ensures c.name-item.result).1 gone)) w.in_ok-add.ensures.names;
-      })
-      | else-ne w ↦ rw (w.names-is, more) (record {
-        distinct = c.loop-name.invariant.distinct;
-        kept = replaced c.args.made names c.name-item.result c.loop-name.names.items c.loop-name.invariant.kept
-            ((c.plain_of-plain.ensures c.name-item.result).0 (plain_name ne w.if-ne.false));
-      })
+      | then-ne+in_ok-push w ↦ rw (w.names-is, more) (kept_too c.args.made names c.name-item.result c.loop-name.names.items c.loop-name.invariant w.push.new.self.items
+          (λ gone. other_name ne w.if-ne.true ((c.plain_of-plain.ensures c.name-item.result).1 gone))
+          (added c.name-item.result c.loop-name.names.items w.push.new.self.items w.push.new.self.items w.in_ok-push.ensures.items (λ name. (λ has. has, λ has. has))))
+      | else-ne w ↦ rw (w.names-is, more) (replaced c.args.made names c.name-item.result c.loop-name.names.items c.loop-name.invariant
+          ((c.plain_of-plain.ensures c.name-item.result).0 (plain_name ne w.if-ne.false)))
     ]
+
+-- the directory once the name was added
+whole : (c : After-put_in_order) → IsAfter c.args.made c.args.self.now c.put_in_order.new.names.items
+whole c =
+    let all = take_all c.loop-name.name-index c.deref-name-items.result.now c.loop-name-test.false ∙ c.deref-name-items.ensures.value ∙ c.self.view_is in
+    made_and_kept c.args.made c.args.self.now c.loop-name.names.items c.put_in_order.new.names.items
+    (subst (λ (names : List FileName). IsKept c.args.made names c.loop-name.names.items) all c.loop-name.invariant)
+    (added c.args.made c.loop-name.names.items c.push-2.new.self.items c.put_in_order.new.names.items c.in_ok-push-2.ensures.items c.put_in_order.ensures.same)
 
 pub invariant_of-result : goal.invariant_of-result
 invariant_of-result c =
-    let all = take_all c.loop-name.name-index c.deref-name-items.result.now c.loop-name-test.false ∙ c.deref-name-items.ensures.value in
-    let kept = subst (λ (names : List FileName). IsKept c.args.made names c.loop-name.names.items) all c.loop-name.invariant.kept in
+    let is = whole (goal.at.invariant_of-result c).After-put_in_order in
     record {
-      distinct = c.in_ok-add-2.ensures.distinct c.loop-name.invariant.distinct;
+      ascend = c.put_in_order.ensures.ascend;
       named = λ name there. ⊎_elim
           (λ here. subst IsFileName (sym here) c.requires)
-          (λ before. c.self.invariant.named name ((kept name).0 before).0)
-          ((c.in_ok-add-2.ensures.names name).0 there);
+          (λ before. c.self.invariant.named name (subst (λ (names : List FileName). Contains names name) (sym c.self.view_is) before.0))
+          ((is name).0 there);
     }
 
 pub returns : goal.returns
-returns c =
-    let all = take_all c.loop-name.name-index c.deref-name-items.result.now c.loop-name-test.false ∙ c.deref-name-items.ensures.value ∙ c.self.view_is in
-    let kept = subst (λ (names : List FileName). IsKept c.args.made names c.loop-name.names.items) all c.loop-name.invariant.kept in
-    made_and_kept c.args.made c.args.self.now c.loop-name.names.items c.add-2.new.names.items kept c.in_ok-add-2.ensures.names
+returns c = whole (goal.at.returns c).After-put_in_order

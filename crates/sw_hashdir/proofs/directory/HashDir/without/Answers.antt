@@ -1,6 +1,6 @@
 use Rattle.std.proofs.Common.{rules, ◌≡◌, ◌≢◌, ◌+◌, true, false, List, Vec, Global, take, refl, sym, ap, subst, ◌∙◌}
-use Rattle.std.specs.List.{AllPairs}
 use Rattle.sw_hashpath.specs.declared.file_name.FileName.{FileName}
+use Rattle.sw_hashdir.specs.Order.{Ascend}
 use Rattle.sw_hashdir.proofs.Listed.{AreKept, kept_here, kept_past, kept_whole}
 use Rattle.sw_hashdir.proofs.directory.HashDir.without.Goals as goal
 use Rattle.sw_hashdir.proofs.directory.HashDir.without.Goals.{After-loop-name, After-ne, then-ne+in_ok-push, else-ne}
@@ -25,7 +25,7 @@ loop-name-preserved c =
     elim c.if-ne.branch [
       | then-ne+in_ok-push w ↦
           kept_here (λ name. name) (λ name. name ≢ c.args.gone) (λ a b same. same) names c.loop-name.name-index c.loop-name.names.items c.if-ne.names.items c.name-item.result c.name-item.result
-          (subst (AllPairs (λ a b. a ≢ b)) (sym c.deref-name-items.ensures.value) c.self.invariant.distinct) c.loop-name-test.true c.name-item.is c.loop-name.invariant
+          (subst Ascend (sym c.deref-name-items.ensures.value) c.self.invariant.ascend) c.loop-name-test.true c.name-item.is c.loop-name.invariant
           (other_name at w.if-ne.true) refl (ap items_of w.names-is ∙ w.in_ok-push.ensures.items)
       | else-ne w ↦ subst (λ kept. AreLeft c.args.gone (take (c.loop-name.name-index + 1) names) kept) (ap items_of (sym w.names-is))
           (kept_past (λ name. name) (λ name. name ≢ c.args.gone) names c.loop-name.name-index c.loop-name.names.items c.name-item.result c.loop-name-test.true c.name-item.is
@@ -39,7 +39,7 @@ whole c = subst (λ names. AreLeft c.args.gone names c.loop-name.names.items) c.
 
 pub invariant_of-result : goal.invariant_of-result
 invariant_of-result c = record {
-  distinct = (whole c).distinct;
+  ascend = (whole c).ascend;
   named = λ name has. c.self.invariant.named name ((whole c).found name has).1;
 }
 
