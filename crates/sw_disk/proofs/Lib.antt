@@ -1,3 +1,4 @@
 pub mod Chains
 pub mod Images
 pub mod Settling
+pub mod Used

@@ -48,7 +48,7 @@ module _ {D : Type 0} (seen : D → Seen) (left_since : D → Past) (a b : D) wh
   ended_survey (call ∷ calls) reason stopped = stopped_ended (call ∷ calls) (Err reason) stopped
 
   pub survey_ended : (power : ℕ) (floors : List (PlaceModel × Floor)) (message : Msg) (result : Result Reply DiskRefusal) → HandlesSurvey seen left_since power floors message result a b → Ended (seen a) (seen b) result
-  survey_ended power floors message (Ok reply) surveys = ((survey_answers power (Contains surveys.listed) (AreKept power floors) message reply surveys.surveyed).0, surveys.runs.quiet (λ is. cc))
+  survey_ended power floors message (Ok reply) surveys = (survey_answers power (Contains surveys.listed) (AreKept power floors) message reply surveys.surveyed, surveys.runs.quiet (λ is. cc))
   survey_ended power floors message (Err reason) stopped = ended_survey (survey_calls message) reason stopped
 
 -- ---- the reply

@@ -1,5 +1,5 @@
 -- What a mounted node is after it handled a message.
-use Rattle.std.proofs.Common.{◌≡◌, ◌≢◌, inl, inr, ℕ, ◌≤◌, Bool, false, List, IfOk, OnErr, OnOk, Option, Some, None, Result, Ok, Err, refl, sym, ap, subst, ◌∙◌, [], ◌∷◌}
+use Rattle.std.proofs.Common.{◌≡◌, ◌≢◌, ◌⊎◌, inl, inr, ℕ, ◌≤◌, Bool, false, List, IfOk, OnErr, OnOk, Option, Some, None, Result, Ok, Err, refl, sym, ap, subst, ◌∙◌, [], ◌∷◌}
 use Rattle.std.specs.Prelude.{⊤}
 use Rattle.sw_disk.specs.Calls.{Call}
 use Rattle.sw_disk.specs.Folder.{Content, File, IsImage, files_of}
@@ -23,11 +23,12 @@ use Rattle.sw_message.specs.declared.message.Msg.{Msg}
 use Rattle.sw_message.specs.declared.reply.Reply.{Reply}
 use Rattle.sw_objsrv.specs.Folder.{AreInOrder, HaveSameFloors, IsInOrder}
 use Rattle.sw_objsrv.specs.Handling.{AreListed, HandlesAt, HandlesSurvey, IsAnswered, IsBeforeOrAfter, IsStamped, StopsAt, StopsSurvey, Surveys, folders_of, refused_reply, reply_of}
-use Rattle.sw_objsrv.specs.Node.{Handled, IfBothStates, IfSynced, IsByTable, IsNode, IsRefusal, NodeModel}
+use Rattle.sw_objsrv.specs.Node.{Handled, IfBothStates, IfSynced, IsByTable, IsNode, IsUnchanging, NodeModel}
+use Rattle.sw_objsrv.proofs.Accounting.{answered_accounted}
 use Rattle.sw_objsrv.proofs.Ended.{Ended, failed_counts, fails_fault, fault_fails, has_failed, other_quiet, placed_ended, stopped_ended, survey_ended}
 use Rattle.sw_objsrv.proofs.Fetched.{stops_reading}
 use Rattle.sw_objsrv.proofs.InOrder.{orders_kept}
-use Rattle.sw_objsrv.proofs.PlaceStep.{Leaves, kept_leaves, kept_these, leaves, placed_keeps, placed_step}
+use Rattle.sw_objsrv.proofs.PlaceStep.{Leaves, kept_leaves, kept_these, leaves, leaves_within, placed_keeps, placed_step}
 use Rattle.sw_objsrv.proofs.SurveyStep.{survey_quiet, survey_step}
 use Rattle.sw_objsrv.proofs.Told.{both_each, both_follow, told_both}
 
@@ -46,13 +47,17 @@ module _ {D : Type 0} (seen : D → Seen) (left_since : D → Past) (cluster : C
   abbrev Decided : PlaceModel → State → List File → Type 0
   Decided place before files = IsBeforeOrAfter cluster device (free_of before) message place (folders_of before) files
 
+  abbrev LeavesDecided : PlaceModel → State → Type 0
+  LeavesDecided place before = (t : ℕ) (image : List File) → t ≤ (seen a).moment → left_since b t (folder_of place) image → left_since a t (folder_of place) image ⊎ Decided place before image
+
   -- what is known of the disk once a message was handled
   pub record Answers (result : Result Reply DiskRefusal) : Type 0 where
     pub ended : Ended (seen a) (seen b) result
     pub step : IsByTable (reply_of result) → IfBothStates (seen a) (seen b) (λ before after. IsNodeStep cluster device (free_of before) message (folders_of before) (folders_of after) (reply_of result))
-    pub kept : IsRefusal (reply_of result) → Keeps seen left_since (λ _. ⊤) a b
+    pub kept : IsUnchanging (reply_of result) → Keeps seen left_since (λ _. ⊤) a b
     pub undecided : (place : PlaceModel) → place_in message ≡ Some place → IfBothStates (seen a) (seen b) (λ before after. Decided place before (files_of (after.folder (folder_of place))))
-    pub crash : (place : PlaceModel) → place_in message ≡ Some place → IfSynced (seen a) (folder_of place) (λ before. LeavesOnly left_since b (seen a).moment (folder_of place) (Decided place before))
+    pub crash : (place : PlaceModel) → place_in message ≡ Some place → IfSynced (seen a) (folder_of place) (LeavesDecided place)
+    pub crash_within : (place : PlaceModel) → place_in message ≡ Some place → IfSynced (seen a) (folder_of place) (λ before. LeavesOnly left_since b (seen a).moment (folder_of place) (Decided place before))
     pub synced : (place : PlaceModel) → place_in message ≡ Some place → IfBothStates (seen a) (seen b) (λ before after. AreSynced (files_of (before.folder (folder_of place))) → AreSynced (files_of (after.folder (folder_of place))))
     pub others : Keeps seen left_since (IsElsewhere message) a b
 
@@ -66,13 +71,15 @@ module _ {D : Type 0} (seen : D → Seen) (left_since : D → Past) (cluster : C
 
   place_answers : (place : PlaceModel) (about : place_in message ≡ Some place) (result : Result Reply DiskRefusal) → Ended (seen a) (seen b) result
       → (IsByTable (reply_of result) → IfBothStates (seen a) (seen b) (λ before after. IsNodeStep cluster device (free_of before) message (folders_of before) (folders_of after) (reply_of result)))
-      → (IsRefusal (reply_of result) → Keeps seen left_since (λ _. ⊤) a b) → Leaves cluster device message place about seen left_since a b → Answers result
-  place_answers place about result ended step kept left = record {
+      → (IsUnchanging (reply_of result) → Keeps seen left_since (λ _. ⊤) a b) → Leaves cluster device message place about seen left_since a b
+      → IfSynced (seen a) (folder_of place) (λ before. LeavesOnly left_since b (seen a).moment (folder_of place) (Decided place before)) → Answers result
+  place_answers place about result ended step kept left within = record {
     ended = ended;
     step = step;
     kept = kept;
     undecided = λ other is. subst (λ (p : PlaceModel). IfBothStates (seen a) (seen b) (λ before after. Decided p before (files_of (after.folder (folder_of p))))) (one_about place other about is) left.undecided;
-    crash = λ other is. subst (λ (p : PlaceModel). IfSynced (seen a) (folder_of p) (λ before. LeavesOnly left_since b (seen a).moment (folder_of p) (Decided p before))) (one_about place other about is) left.crash;
+    crash = λ other is. subst (λ (p : PlaceModel). IfSynced (seen a) (folder_of p) (LeavesDecided p)) (one_about place other about is) left.crash;
+    crash_within = λ other is. subst (λ (p : PlaceModel). IfSynced (seen a) (folder_of p) (λ before. LeavesOnly left_since b (seen a).moment (folder_of p) (Decided p before))) (one_about place other about is) within;
     synced = λ other is. subst (λ (p : PlaceModel). IfBothStates (seen a) (seen b) (λ before after. AreSynced (files_of (before.folder (folder_of p))) → AreSynced (files_of (after.folder (folder_of p))))) (one_about place other about is) left.synced;
     others = record { stands = λ name elsewhere. left.others.stands name (elsewhere place about); leaves = λ some name elsewhere. left.others.leaves some name (elsewhere place about) };
   }
@@ -90,18 +97,25 @@ module _ {D : Type 0} (seen : D → Seen) (left_since : D → Past) (cluster : C
   no_table calls (Err (refusal.Full need free)) stopped by_table = stopped
   no_table calls (Err refusal.NoMemory) stopped by_table = by_table.1 refl
 
+  within : (place : PlaceModel) (about : place_in message ≡ Some place) → IsPlaceOf cluster (Some place) → IsStamped message → Leaves cluster device message place about seen left_since a b
+      → IfSynced (seen a) (folder_of place) (λ before. LeavesOnly left_since b (seen a).moment (folder_of place) (Decided place before))
+  within place about is_place stamped left = leaves_within cluster device message place about seen left_since a b (floor_at place floors) stamped now only earlier (here place is_place) left
+
   placed : (place : PlaceModel) → place_in message ≡ Some place → IsPlaceOf cluster (Some place) → IsStamped message → (result : Result Reply DiskRefusal) → HandlesAt seen left_since cluster device floors message (Some place) result a b
       → IsUnmade result → Answers result
-  placed place about is_place stamped result (inl handles) unmade = place_answers place about result
+  placed place about is_place stamped result (inl handles) unmade =
+      let left = leaves cluster device message place about seen left_since a b (floor_at place floors) stamped now only earlier (here place is_place) result handles unmade in
+      place_answers place about result
       (placed_ended seen left_since a b (folder_of place) (λ found. IsHandled cluster device found message) result handles)
       (placed_step cluster device message place about seen left_since a b (floor_at place floors) stamped now only earlier (here place is_place) result handles unmade)
       (placed_keeps cluster device message place about seen left_since a b (floor_at place floors) stamped now only earlier (here place is_place) result handles unmade)
-      (leaves cluster device message place about seen left_since a b (floor_at place floors) stamped now only earlier (here place is_place) result handles unmade)
+      left (within place about is_place stamped left)
   placed place about is_place stamped result (inr read) unmade =
       let stopped = stops_reading seen left_since a b message result read in
       let kept = stopped_keeps stopped.0 stopped.1 result stopped.2 unmade in
-      place_answers place about result (stopped_ended seen left_since a b stopped.0 result stopped.2) (λ by_table. absurd (no_table stopped.0 result stopped.2 by_table)) (λ refusal. kept)
-      (kept_leaves cluster device message place about seen left_since a b (floor_at place floors) stamped now only earlier (here place is_place) kept)
+      let left = kept_leaves cluster device message place about seen left_since a b (floor_at place floors) stamped now only earlier (here place is_place) kept in
+      place_answers place about result (stopped_ended seen left_since a b stopped.0 result stopped.2) (λ by_table. absurd (no_table stopped.0 result stopped.2 by_table)) (λ unchanging. kept)
+      left (within place about is_place stamped left)
 
   -- ---- about no place
 
@@ -145,9 +159,10 @@ module _ {D : Type 0} (seen : D → Seen) (left_since : D → Past) (cluster : C
       record {
         ended = survey_ended seen left_since a b cluster.part_power floors message result handles;
         step = surveyed_step about result handles unmade;
-        kept = λ refusal. kept;
+        kept = λ unchanging. kept;
         undecided = λ place is. absurd (not_about place about is);
         crash = λ place is. absurd (not_about place about is);
+        crash_within = λ place is. absurd (not_about place about is);
         synced = λ place is. absurd (not_about place about is);
         others = kept_these seen left_since (IsElsewhere message) a b kept;
       }
@@ -172,15 +187,16 @@ module _ {D : Type 0} (seen : D → Seen) (left_since : D → Past) (cluster : C
     (unmade : (reason : DiskRefusal) → refusal_of result ≡ Some reason → reason ≢ refusal.Failed → Keeps seen left_since (λ _. ⊤) old.disk new.disk)
     (refused : OnErr result (HaveSameFloors new.floors old.floors)) (device : new.device ≡ old.device) (due : new.is_due ≡ has_failed result) where
   pub handled : IsPlaceOf cluster (place_in message) → IsStamped message → IsAnswered seen left_since cluster old.device old.floors message result old.disk new.disk
-      → IfOk result (λ reply. IsRefusal reply → HaveSameFloors new.floors old.floors) → Handled seen left_since cluster message (reply_of result) old new
+      → IfOk result (λ reply. IsUnchanging reply → HaveSameFloors new.floors old.floors) → Handled seen left_since cluster message (reply_of result) old new
   handled is_place stamped answered same =
       let all = answers seen left_since cluster old.device old.floors message old.disk new.disk now only earlier (node.in_order mounted) is_place stamped result answered unmade in
       record {
         answered = (result, refl, answered);
         step = all.step;
-        kept = λ refusal. (all.kept refusal, same_floors result refused same refusal);
+        kept = λ unchanging. (all.kept unchanging, same_floors result refused same unchanging);
         undecided = all.undecided;
         crash = all.crash;
+        crash_within = all.crash_within;
         synced = all.synced;
         others = all.others;
         is_due = λ is. fails_fault result (sym due ∙ is);
@@ -190,10 +206,10 @@ module _ {D : Type 0} (seen : D → Seen) (left_since : D → Past) (cluster : C
         device = device;
       }
     where
-      same_floors : (ended : Result Reply DiskRefusal) → OnErr ended (HaveSameFloors new.floors old.floors) → IfOk ended (λ reply. IsRefusal reply → HaveSameFloors new.floors old.floors) → IsRefusal (reply_of ended)
+      same_floors : (ended : Result Reply DiskRefusal) → OnErr ended (HaveSameFloors new.floors old.floors) → IfOk ended (λ reply. IsUnchanging reply → HaveSameFloors new.floors old.floors) → IsUnchanging (reply_of ended)
           → HaveSameFloors new.floors old.floors
-      same_floors (Ok reply) err ok refusal = ok refusal
-      same_floors (Err reason) err ok refusal = err
+      same_floors (Ok reply) err ok unchanging = ok unchanging
+      same_floors (Err reason) err ok unchanging = err
 
   -- ---- it stays a node
 
@@ -212,10 +228,12 @@ module _ {D : Type 0} (seen : D → Seen) (left_since : D → Past) (cluster : C
   ended_orders tells first second (Err refusal.NoMemory) none kept same orders = other_orders tells first second (kept refusal.NoMemory refl (λ is. cc)) same
 
   pub still_node : (tells : Bool) → IsTelling tells (seen old.disk).told → IsTelling tells (seen new.disk).told → new.power ≡ old.power
-      → OnOk result (IfTold (seen old.disk).told (AreInOrder cluster old.device old.floors) → IfTold (seen new.disk).told (AreInOrder cluster old.device new.floors)) → IsNode cluster seen new
-  still_node tells first second power orders = record {
+      → OnOk result (IfTold (seen old.disk).told (AreInOrder cluster old.device old.floors) → IfTold (seen new.disk).told (AreInOrder cluster old.device new.floors))
+      → IsAnswered seen left_since cluster old.device old.floors message result old.disk new.disk → IsNode cluster seen new
+  still_node tells first second power orders answered = record {
     rules = node.rules;
     power_is = power ∙ node.power_is;
     member = subst (IsMember cluster) (sym device) node.member;
     in_order = λ none. subst (λ (d : ℕ). IfTold (seen new.disk).told (AreInOrder cluster d new.floors)) (sym device) (ended_orders tells first second result (sym due ∙ none) unmade refused orders);
+    accounted = answered_accounted seen left_since cluster old.device old.floors message result old.disk new.disk answered node.accounted;
   }

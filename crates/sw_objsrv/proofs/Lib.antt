@@ -1,3 +1,4 @@
+pub mod Accounting
 pub mod AfterLook
 pub mod Ended
 pub mod Fetched

@@ -12,7 +12,7 @@ use Rattle.sw_disk.proofs.Chains.{told_map}
 use Rattle.sw_disk.proofs.Images.{same_name-refl}
 use Rattle.sw_hashpath.specs.Place.{PlaceModel, folder_of}
 use Rattle.sw_hashdir.specs.declared.floor.Floor.{Floor}
-use Rattle.sw_diskfile.specs.Changes.{AreSynced, Changes, IfBothTold, IsAsBefore, IsFirstPart, IsSettled, Keeps, Stands}
+use Rattle.sw_diskfile.specs.Changes.{AreSynced, Changes, IfBothTold, IsAsBefore, IsFirstPart, Keeps, Stands}
 use Rattle.sw_diskfile.specs.Normal.{IsNormalForm}
 use Rattle.sw_diskfile.proofs.Directories.{other_name, same_or_other}
 use Rattle.sw_diskfile.proofs.Outcomes.{changes_run, keeps_refused, keeps_run, quiet_run}
@@ -26,11 +26,11 @@ use Rattle.sw_message.specs.declared.reply.Reply.{Reply}
 use Rattle.sw_message.specs.declared.reply.Reply.TheVariants.{NoSpace}
 use Rattle.sw_objsrv.specs.Folder.{IsInOrder, HaveSameOtherFloors, StaysInOrder}
 use Rattle.sw_objsrv.specs.Handling.{Follows as Followed, Handles, IsAnswer, IsBeforeOrAfter, IsStamped, folders_of, reply_of, HandlesAt, IsAnswered}
-use Rattle.sw_objsrv.specs.Node.{IfBothStates, IfSynced, IsByTable, IsRefusal}
+use Rattle.sw_objsrv.specs.Node.{IfBothStates, IfSynced, IsByTable, IsUnchanging}
 use Rattle.sw_objsrv.proofs.Fetched.{no_answer}
 use Rattle.sw_objsrv.proofs.InOrder.{StayInOrder, order_settled, others_kept}
 use Rattle.sw_objsrv.proofs.Purging.{in_order_normal}
-use Rattle.sw_objsrv.proofs.RowCalls.{makes, quiet_elsewhere, refusal_quiet, row_of}
+use Rattle.sw_objsrv.proofs.RowCalls.{makes, quiet_elsewhere, unchanging_none, row_of}
 use Rattle.sw_objsrv.proofs.RowForms.{parts}
 use Rattle.sw_objsrv.proofs.Told.{both_both, both_each, both_follow, told_both}
 use Rattle.sw_suffix.specs.Table.{floor_at}
@@ -91,7 +91,8 @@ module _ (cluster : ClusterModel) (device : ℕ) (message : Msg) (place : PlaceM
     -- before or after the step, now and after a crash
     pub record Leaves : Type 0 where
       pub undecided : IfBothStates (seen a) (seen b) (λ before after. IsBeforeOrAfter cluster device (free_of before) message place (folders_of before) (files_of (after.folder (folder_of place))))
-      pub crash : IfSynced (seen a) (folder_of place) (λ before. LeavesOnly left_since b (seen a).moment (folder_of place) (IsBeforeOrAfter cluster device (free_of before) message place (folders_of before)))
+      pub crash : IfSynced (seen a) (folder_of place) (λ before. (t : ℕ) (image : List File) → t ≤ (seen a).moment → left_since b t (folder_of place) image
+          → left_since a t (folder_of place) image ⊎ IsBeforeOrAfter cluster device (free_of before) message place (folders_of before) image)
       pub synced : IfBothTold (seen a) (seen b) (folder_of place) (λ before after. AreSynced (files_of before) → AreSynced (files_of after))
       pub others : Keeps seen left_since (λ name. name ≢ folder_of place) a b
 
@@ -105,6 +106,26 @@ module _ (cluster : ClusterModel) (device : ℕ) (message : Msg) (place : PlaceM
 
       abbrev Decided : State → List File → Type 0
       Decided before files = IsBeforeOrAfter cluster device (free_of before) message place (folders_of before) files
+
+      abbrev LeavesDecided : State → Type 0
+      LeavesDecided before = (t : ℕ) (image : List File) → t ≤ (seen a).moment → left_since b t (folder_of place) image → left_since a t (folder_of place) image ⊎ Decided before image
+
+      as_it_was : (before : State) → InOrder before → (files : List File) → files ≡ files_of (before.folder (folder_of place)) → Decided before files
+      as_it_was before order files same =
+          inl (subst (λ (fs : List File). IsNormalForm (is_primary cluster device place) fs (files_of (before.folder (folder_of place)))) (sym same) (in_order_normal (is_primary cluster device place) floor (before.folder (folder_of place)) order))
+
+      -- a crash just before leaves the folder as it was
+      decided_within : (told : Option State) → IfTold told InOrder → ((image : List File) → left_since a (seen a).moment (folder_of place) image → IfTold told (λ s. IsImage (s.folder (folder_of place)) image))
+          → IfTold told (λ before. AreSynced (files_of (before.folder (folder_of place))) → LeavesDecided before)
+          → IfTold told (λ before. AreSynced (files_of (before.folder (folder_of place))) → LeavesOnly left_since b (seen a).moment (folder_of place) (Decided before))
+      decided_within None order only crash = tt
+      decided_within (Some before) order only crash = λ synced image left. ⊎_elim
+          (λ past. as_it_was before order image (order_settled (is_primary cluster device place) floor (before.folder (folder_of place)) order synced image (only image past)))
+          (λ decided. decided)
+          (crash synced (seen a).moment image (omega arith) left)
+
+      pub leaves_within : Leaves → IfSynced (seen a) (folder_of place) (λ before. LeavesOnly left_since b (seen a).moment (folder_of place) (Decided before))
+      leaves_within left = decided_within (seen a).told in_order (only (folder_of place)) left.crash
 
       -- ---- where a row was done
 
@@ -130,6 +151,10 @@ module _ (cluster : ClusterModel) (device : ℕ) (message : Msg) (place : PlaceM
             before_or_after did.found did.handling did.row (folders_of before) (free_of before) has.0 files
             (parts cluster device (free_of before) did.found message did.handling did.row stamped place about floor (before.folder (folder_of place)) has.1 has.0 files part)
 
+        abbrev LeavesPart : State → Type 0
+        LeavesPart before = AreSynced (files_of (before.folder (folder_of place))) → (t : ℕ) (image : List File) → t ≤ (seen a).moment → left_since b t (folder_of place) image
+            → left_since a t (folder_of place) image ⊎ IsFirstPart did.handling.changes (files_of (before.folder (folder_of place))) image
+
         pub did_leaves : Leaves
         did_leaves = record {
           undecided = both_follow (seen a).told (seen b).told There (λ before after. Stands refusal did.handling.changes (before.folder (folder_of place)) (after.folder (folder_of place)))
@@ -137,11 +162,10 @@ module _ (cluster : ClusterModel) (device : ℕ) (message : Msg) (place : PlaceM
               (λ before after has stands. decided before has (files_of (after.folder (folder_of place))) (stands_part refusal did.handling.changes (before.folder (folder_of place)) (after.folder (folder_of place)) stands))
               there did_changes.stands;
           crash = told_map (seen a).told
-              (λ before. There before × (IsSettled (before.folder (folder_of place)) → LeavesOnly left_since b (seen a).moment (folder_of place) (IsFirstPart did.handling.changes (files_of (before.folder (folder_of place))))))
-              (λ before. AreSynced (files_of (before.folder (folder_of place))) → LeavesOnly left_since b (seen a).moment (folder_of place) (Decided before))
-              (told_both (seen a).told There (λ before. IsSettled (before.folder (folder_of place)) → LeavesOnly left_since b (seen a).moment (folder_of place) (IsFirstPart did.handling.changes (files_of (before.folder (folder_of place)))))
-              there did_changes.within)
-              (λ before has synced image left. decided before has.0 image (has.1 (order_settled (is_primary cluster device place) floor (before.folder (folder_of place)) has.0.1 synced) image left));
+              (λ before. There before × LeavesPart before)
+              (λ before. AreSynced (files_of (before.folder (folder_of place))) → LeavesDecided before)
+              (told_both (seen a).told There LeavesPart there did_changes.exactly)
+              (λ before has synced t image le left. ⊎_elim (λ past. inl past) (λ part. inr (decided before has.0 image part)) (has.1 synced t image le left));
           synced = did_changes.synced;
           others = did_others;
         }
@@ -149,14 +173,10 @@ module _ (cluster : ClusterModel) (device : ℕ) (message : Msg) (place : PlaceM
       -- ---- where nothing was changed
 
       module _ (kept : Keeps seen left_since (λ _. ⊤) a b) where
-        as_it_was : (before : State) → InOrder before → (files : List File) → files ≡ files_of (before.folder (folder_of place)) → Decided before files
-        as_it_was before order files same =
-            inl (subst (λ (fs : List File). IsNormalForm (is_primary cluster device place) fs (files_of (before.folder (folder_of place)))) (sym same) (in_order_normal (is_primary cluster device place) floor (before.folder (folder_of place)) order))
-
-        kept_crash : (told : Option State) → IfTold told InOrder → (IsSome told → (image : List File) → left_since b (seen a).moment (folder_of place) image → IfTold told (λ s. IsImage (s.folder (folder_of place)) image))
-            → IfTold told (λ before. AreSynced (files_of (before.folder (folder_of place))) → LeavesOnly left_since b (seen a).moment (folder_of place) (Decided before))
-        kept_crash None order left = tt
-        kept_crash (Some before) order left = λ synced image after. as_it_was before order image (order_settled (is_primary cluster device place) floor (before.folder (folder_of place)) order synced image (left refl image after))
+        kept_crash : (told : Option State) → (IsSome told → (t : ℕ) (image : List File) → t ≤ (seen a).moment → left_since b t (folder_of place) image → left_since a t (folder_of place) image)
+            → IfTold told (λ before. AreSynced (files_of (before.folder (folder_of place))) → LeavesDecided before)
+        kept_crash None left = tt
+        kept_crash (Some before) left = λ synced t image le after. inl (left refl t image le after)
 
         pub kept_leaves : Leaves
         kept_leaves = record {
@@ -164,7 +184,7 @@ module _ (cluster : ClusterModel) (device : ℕ) (message : Msg) (place : PlaceM
               (λ before after. Decided before (files_of (after.folder (folder_of place))))
               (λ before after order same. as_it_was before order (files_of (after.folder (folder_of place))) same.files)
               in_order (kept.stands (folder_of place) tt);
-          crash = kept_crash (seen a).told in_order (λ some image left. only (folder_of place) image (kept.leaves some (folder_of place) tt (seen a).moment image (omega arith) left));
+          crash = kept_crash (seen a).told (λ some. kept.leaves some (folder_of place) tt);
           synced = both_follow (seen a).told (seen b).told InOrder (λ before after. IsAsBefore (before.folder (folder_of place)) (after.folder (folder_of place)))
               (λ before after. AreSynced (files_of (before.folder (folder_of place))) → AreSynced (files_of (after.folder (folder_of place))))
               (λ before after _ same synced. subst AreSynced (sym same.files) synced)
@@ -219,12 +239,12 @@ module _ (cluster : ClusterModel) (device : ℕ) (message : Msg) (place : PlaceM
       leaves (Err (Full need free)) handles unmade = kept_leaves (unmade (Full need free) refl (λ is. cc))
       leaves (Err NoMemory) handles unmade = kept_leaves (unmade NoMemory refl (λ is. cc))
 
-      -- a refusal changes nothing
-      refused_keeps : (reply : Reply) → Follows (Ok reply) → IsRefusal reply → Keeps seen left_since (λ _. ⊤) a b
+      -- an answer that changes nothing
+      answered_keeps : (reply : Reply) → Follows (Ok reply) → IsUnchanging reply → Keeps seen left_since (λ _. ⊤) a b
       unfolding did_all
-      refused_keeps reply follows refusal =
+      answered_keeps reply follows unchanging =
           let did = did_all reply follows in
-          let none = refusal_quiet cluster device did.found message did.handling did.row place about (subst IsRefusal (sym follows.runs.1) refusal) in
+          let none = unchanging_none cluster device did.found message did.handling did.row place about (subst IsUnchanging (sym follows.runs.1) unchanging) in
           let makes = makes cluster device did.found message did.handling did.row place about did.answers in
           let quiet = λ (name : List ℕ) (these : ⊤) (temporary : Option Content).
           ⊎_elim
@@ -233,12 +253,12 @@ module _ (cluster : ClusterModel) (device : ℕ) (message : Msg) (place : PlaceM
           (same_or_other name (folder_of place)) in
           keeps_run seen left_since (λ _. ⊤) did.handling.calls quiet a b now earlier None did.runs
 
-      pub placed_keeps : (result : Result Reply DiskRefusal) → Handles seen left_since (folder_of place) (λ found. IsHandled cluster device found message) result a b → IsUnmade result → IsRefusal (reply_of result) → Keeps seen left_since (λ _. ⊤) a b
-      placed_keeps (Ok reply) (inl early) unmade refusal = absurd early
-      placed_keeps (Ok reply) (inr follows) unmade refusal = refused_keeps reply follows refusal
-      placed_keeps (Err Failed) handles unmade refusal = absurd refusal
-      placed_keeps (Err (Full need free)) handles unmade refusal = unmade (Full need free) refl (λ is. cc)
-      placed_keeps (Err NoMemory) handles unmade refusal = unmade NoMemory refl (λ is. cc)
+      pub placed_keeps : (result : Result Reply DiskRefusal) → Handles seen left_since (folder_of place) (λ found. IsHandled cluster device found message) result a b → IsUnmade result → IsUnchanging (reply_of result) → Keeps seen left_since (λ _. ⊤) a b
+      placed_keeps (Ok reply) (inl early) unmade unchanging = absurd early
+      placed_keeps (Ok reply) (inr follows) unmade unchanging = answered_keeps reply follows unchanging
+      placed_keeps (Err Failed) handles unmade unchanging = absurd unchanging
+      placed_keeps (Err (Full need free)) handles unmade unchanging = unmade (Full need free) refl (λ is. cc)
+      placed_keeps (Err NoMemory) handles unmade unchanging = unmade NoMemory refl (λ is. cc)
 
       -- ---- the step that was done
 
@@ -265,7 +285,7 @@ module _ (cluster : ClusterModel) (device : ℕ) (message : Msg) (place : PlaceM
       no_room : (need free : ℕ) → Follows (Err (Full need free)) → Keeps seen left_since (λ _. ⊤) a b → IfBothStates (seen a) (seen b) (Stepped (NoSpace need free))
       no_room need free follows kept =
           let handling = follows.handling in
-          let none = refusal_quiet cluster device follows.found message handling follows.row place about (subst IsRefusal (sym follows.runs.0) tt) in
+          let none = unchanging_none cluster device follows.found message handling follows.row place about (subst IsUnchanging (sym follows.runs.0) tt) in
           let same = λ (before after : State). (name : List ℕ) → IsAsBefore (before.folder name) (after.folder name) in
           both_follow (seen a).told (seen b).told (IsFoundIn follows.found) same (Stepped (NoSpace need free))
           (λ before after found kept. step follows.found handling follows.row (folders_of before) (free_of before) found (folders_of after) (NoSpace need free) (sym follows.runs.0)

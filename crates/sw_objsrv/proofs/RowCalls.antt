@@ -20,7 +20,7 @@ use Rattle.sw_message.specs.declared.message.Msg.TheVariants as message
 use Rattle.sw_message.specs.declared.reply.Reply.{Reply}
 use Rattle.sw_message.specs.declared.reply.Reply.TheVariants.{Committed, Deleted, Fragment, Gone, Held, Kept, Missing, NoSpace, Removed, Spoiled, Superseded, Synced}
 use Rattle.sw_objsrv.specs.Handling.{IsAnswer}
-use Rattle.sw_objsrv.specs.Node.{IsRefusal}
+use Rattle.sw_objsrv.specs.Node.{IsUnchanging}
 
 -- ---- lists of calls
 
@@ -90,11 +90,11 @@ module _ (folder : List ℕ) where
 
 -- ---- rows
 
--- the row of an answer: its calls make its changes, and a refusal makes none
+-- the row of an answer: its calls make its changes, and there are none where the reply says so
 pub record IsAnswerRow (folder : List ℕ) (handling : Handling) : Type 0 where
   pub answers : IsAnswer handling.reply
   pub does : Does folder handling.calls handling.changes
-  pub none : IsRefusal handling.reply → handling.changes ≡ []
+  pub none : IsUnchanging handling.reply → handling.changes ≡ []
 
 -- The row of a full disk: its calls are those of a new file, and it makes no change. The call behind the look is refused.
 pub record IsFullRow (folder : List ℕ) (handling : Handling) : Type 0 where
@@ -114,7 +114,7 @@ moved : (handling : Handling) (here other : PlaceModel) → here ≡ other → I
 moved handling here other same does = subst (λ (place : PlaceModel). IsRow (folder_of place) handling) same does
 
 module _ (folder : List ℕ) (handling : Handling) where
-  after_look : (calls : List Call) (changes : List Change) (reply : Reply) → IsAnswer reply → (IsRefusal reply → changes ≡ []) → Does folder calls changes → handling ≡ answers_after folder calls changes reply
+  after_look : (calls : List Call) (changes : List Change) (reply : Reply) → IsAnswer reply → (IsUnchanging reply → changes ≡ []) → Does folder calls changes → handling ≡ answers_after folder calls changes reply
       → IsRow folder handling
   after_look calls changes reply answer none does is = subst (IsRow folder) (sym is) (inl (record { answers = answer; does = does_look folder calls changes does; none = none }))
 
@@ -150,7 +150,7 @@ module _ (place : PlaceModel) (found : Found) (handling : Handling) where
       (λ there. looked folder handling Synced tt there.2)
       (λ lacking. ⊎_elim
       (λ full. no_room folder handling (plain_text stamp index) bytes found.room full.0 full.1)
-      (λ fits. after_look folder handling (store_calls folder (plain_text stamp index) bytes) (new_file (plain_text stamp index) bytes ∷ []) Synced tt (λ refusal. absurd refusal) (does_store folder (plain_text stamp index) bytes) fits.1)
+      (λ fits. after_look folder handling (store_calls folder (plain_text stamp index) bytes) (new_file (plain_text stamp index) bytes ∷ []) Synced tt (λ unchanging. absurd unchanging) (does_store folder (plain_text stamp index) bytes) fits.1)
       lacking.1)
       free.1)
       sound.1)
@@ -172,7 +172,7 @@ module _ (place : PlaceModel) (found : Found) (handling : Handling) where
       purges obsolete is =
           let calls = commit_calls folder (plain_text stamp index) (durable_text stamp index) in
           let change = Rename (plain_text stamp index) (durable_text stamp index) in
-          after_look folder handling (calls ++ purge_calls folder obsolete) (change ∷ map Remove obsolete) Committed tt (λ refusal. absurd refusal)
+          after_look folder handling (calls ++ purge_calls folder obsolete) (change ∷ map Remove obsolete) Committed tt (λ unchanging. absurd unchanging)
           (does_purge folder calls (change ∷ []) (does_commit folder (plain_text stamp index) (durable_text stamp index)) obsolete) is
 
   delete_row : (primary : Bool) (stamp : ℕ) → HandlesDelete primary place stamp found handling → IsRow folder handling
@@ -188,7 +188,7 @@ module _ (place : PlaceModel) (found : Found) (handling : Handling) where
       buries existed obsolete is =
           let calls = store_calls folder (tombstone_text stamp) [] in
           let change = new_file (tombstone_text stamp) [] in
-          after_look folder handling (calls ++ purge_calls folder obsolete) (change ∷ map Remove obsolete) (Deleted existed) tt (λ refusal. absurd refusal)
+          after_look folder handling (calls ++ purge_calls folder obsolete) (change ∷ map Remove obsolete) (Deleted existed) tt (λ unchanging. absurd unchanging)
           (does_purge folder calls (change ∷ []) (does_store folder (tombstone_text stamp) []) obsolete) is
 
   fetch_row : (cluster : ClusterModel) (stamp index : ℕ) → HandlesFetch cluster place stamp index found handling → IsRow folder handling
@@ -209,7 +209,7 @@ module _ (place : PlaceModel) (found : Found) (handling : Handling) where
       (λ lacking. looked folder handling Missing tt lacking.1)
       (λ there.
       let text = file_name_text (Data stamp index there.0) in
-      after_look folder handling (drop_calls folder text) (Remove text ∷ []) Removed tt (λ refusal. absurd refusal) (does_drop folder text) there.2)
+      after_look folder handling (drop_calls folder text) (Remove text ∷ []) Removed tt (λ unchanging. absurd unchanging) (does_drop folder text) there.2)
       handoff.1)
       row
 
@@ -243,6 +243,6 @@ module _ (cluster : ClusterModel) (device : ℕ) (found : Found) (message : Msg)
   pub full_row : (need free : ℕ) → handling.reply ≡ NoSpace need free → IsFullRow (folder_of place) handling
   full_row need free replied = ⊎_elim (λ answers. absurd (subst IsAnswer replied answers.answers)) (λ full. full) row
 
-  -- a refusal changes nothing
-  pub refusal_quiet : IsRefusal handling.reply → handling.changes ≡ []
-  refusal_quiet refusal = ⊎_elim (λ answers. answers.none refusal) (λ full. full.none) row
+  -- a reply that changes nothing is of a row without changes
+  pub unchanging_none : IsUnchanging handling.reply → handling.changes ≡ []
+  unchanging_none unchanging = ⊎_elim (λ answers. answers.none unchanging) (λ full. full.none) row

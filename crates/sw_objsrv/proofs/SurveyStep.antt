@@ -15,7 +15,6 @@ use Rattle.sw_message.specs.declared.message.Msg.TheVariants as message
 use Rattle.sw_message.specs.declared.reply.Reply.{Reply}
 use Rattle.sw_objsrv.specs.Folder.{AreInOrder}
 use Rattle.sw_objsrv.specs.Handling.{AreListed, AreKept, IsAnswer, folders_of}
-use Rattle.sw_objsrv.specs.Node.{IsRefusal}
 use Rattle.sw_objsrv.proofs.Floors.{are_floors}
 
 -- ---- the answers, told by other words for the same folders and floors
@@ -51,11 +50,11 @@ module _ (power : ℕ) (Has Holds : List ℕ → Type 0) (same : (place : PlaceM
   surveyed_too Are Also also (message.Fetch place stamp index) reply is = is
   surveyed_too Are Also also (message.Remove place stamp index) reply is = is
 
--- they are no refusals
-pub survey_answers : (power : ℕ) (Has : List ℕ → Type 0) (Are : List (PlaceModel × Floor) → Type 0) (message : Msg) (reply : Reply) → IsSurveyed power Has Are message reply → IsAnswer reply × (IsRefusal reply → ⊥)
-survey_answers power Has Are message.Parts reply is = (subst IsAnswer (sym is.2) tt, λ refusal. subst IsRefusal is.2 refusal)
-survey_answers power Has Are (message.Suffixes part) reply is = (subst IsAnswer (sym is.4) tt, λ refusal. subst IsRefusal is.4 refusal)
-survey_answers power Has Are (message.Places part) reply is = (subst IsAnswer (sym is.2) tt, λ refusal. subst IsRefusal is.2 refusal)
+-- they are answers
+pub survey_answers : (power : ℕ) (Has : List ℕ → Type 0) (Are : List (PlaceModel × Floor) → Type 0) (message : Msg) (reply : Reply) → IsSurveyed power Has Are message reply → IsAnswer reply
+survey_answers power Has Are message.Parts reply is = subst IsAnswer (sym is.2) tt
+survey_answers power Has Are (message.Suffixes part) reply is = subst IsAnswer (sym is.4) tt
+survey_answers power Has Are (message.Places part) reply is = subst IsAnswer (sym is.2) tt
 survey_answers power Has Are (message.PutFrag place stamp index bytes) reply is = absurd is
 survey_answers power Has Are (message.Commit place stamp index) reply is = absurd is
 survey_answers power Has Are (message.Delete place stamp) reply is = absurd is

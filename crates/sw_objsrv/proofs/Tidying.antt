@@ -57,7 +57,7 @@ module _ {D : Type 0} (seen : D → Seen) (left_since : D → Past) (cluster : C
 
   -- ---- what one leaves
 
-  run_of : (folder : List ℕ) (primary : Bool) (reason : Option DiskRefusal) (a b : D) → Tidies seen left_since folder primary reason a b → (calls : List Call) × Runs seen left_since calls reason a b
+  pub run_of : (folder : List ℕ) (primary : Bool) (reason : Option DiskRefusal) (a b : D) → Tidies seen left_since folder primary reason a b → (calls : List Call) × Runs seen left_since calls reason a b
   run_of folder primary reason a b (inl early) = (_, early.2)
   run_of folder primary reason a b (inr all) = (tidy_calls folder all.1, all.5)
 

@@ -1,9 +1,10 @@
 -- What contracts see of a node, and how it handles a message.
-use Rattle.std.specs.Prelude.{◌≡◌, ◌≢◌, ◌⊎◌, ℕ, Bool, true, false, List, Option, Some, None, Result, ⊤}
+use Rattle.std.specs.Prelude.{◌≡◌, ◌≢◌, ◌⊎◌, ℕ, ◌≤◌, Bool, true, false, List, Option, Some, None, Result, ⊤}
 use Rattle.sw_words.specs.Counts.{one_more}
-use Rattle.sw_disk.specs.Folder.{files_of}
+use Rattle.sw_disk.specs.Folder.{File, files_of}
 use Rattle.sw_disk.specs.Runs.{IfTold, LeavesOnly, Past, Seen}
 use Rattle.sw_disk.specs.State.{State, free_of}
+use Rattle.sw_disk.specs.Used.{IsAccounted}
 use Rattle.sw_disk.specs.declared.refusal.DiskRefusal.{DiskRefusal}
 use Rattle.sw_hashpath.specs.Place.{PlaceModel, folder_of}
 use Rattle.sw_hashdir.specs.declared.floor.Floor.{Floor}
@@ -13,7 +14,7 @@ use Rattle.sw_message.specs.Message.{IsMember, place_in}
 use Rattle.sw_message.specs.Step.{IsNodeStep}
 use Rattle.sw_message.specs.declared.message.Msg.{Msg}
 use Rattle.sw_message.specs.declared.reply.Reply.{Reply}
-use Rattle.sw_message.specs.declared.reply.Reply.TheVariants.{DiskFault, Gone, Kept, Missing, NoMemory, NoSpace, Spoiled, Superseded}
+use Rattle.sw_message.specs.declared.reply.Reply.TheVariants.{Committed, Deleted, DiskFault, NoMemory, Removed, Synced}
 use Rattle.sw_objsrv.specs.Folder.{AreInOrder, HaveSameFloors}
 use Rattle.sw_objsrv.specs.Handling.{IsAnswered, IsBeforeOrAfter, folders_of, reply_of}
 use Rattle.sw_objsrv.specs.Mounting.{Mounts}
@@ -35,6 +36,8 @@ pub record IsNode {D : Type 0} (cluster : ClusterModel) (seen : D → Seen) (nod
   pub power_is : node.power ≡ cluster.part_power
   pub member : IsMember cluster node.device
   pub in_order : node.is_due ≡ false → IfTold (seen node.disk).told (AreInOrder cluster node.device node.floors)
+  -- the bytes that are used are those of all files, also while a remount is due
+  pub accounted : IfTold (seen node.disk).told IsAccounted
 
 -- a fact of what a disk held and holds, where it tells
 abbrev pub IfBothStates : Seen → Seen → (State → State → Type 0) → Type 0
@@ -44,16 +47,14 @@ IfBothStates old new P = IfTold old.told (λ before. IfTold new.told (λ after. 
 abbrev pub IsByTable : Reply → Type 0
 IsByTable reply = (reply ≢ DiskFault) × (reply ≢ NoMemory)
 
--- refusals after which the folders are as before
-abbrev pub IsRefusal : Reply → Type 0
-IsRefusal NoMemory = ⊤
-IsRefusal (NoSpace need free) = ⊤
-IsRefusal (Superseded floor) = ⊤
-IsRefusal Missing = ⊤
-IsRefusal (Gone listing) = ⊤
-IsRefusal Kept = ⊤
-IsRefusal (Spoiled spoil) = ⊤
-IsRefusal other = ⊥
+-- replies after which the folders are as before: all but a failure and the four that tell of a change that is made
+abbrev pub IsUnchanging : Reply → Type 0
+IsUnchanging DiskFault = ⊥
+IsUnchanging Synced = ⊥
+IsUnchanging Committed = ⊥
+IsUnchanging (Deleted existed) = ⊥
+IsUnchanging Removed = ⊥
+IsUnchanging other = ⊤
 
 -- the files of the folder of a place were on the disk, all of their bytes
 abbrev pub IfSynced : Seen → List ℕ → (State → Type 0) → Type 0
@@ -65,13 +66,17 @@ pub record Handled {D : Type 0} (seen : D → Seen) (left_since : D → Past) (c
   pub answered : (result : Result Reply DiskRefusal) × (reply ≡ reply_of result) × IsAnswered seen left_since cluster old.device old.floors message result old.disk new.disk
   -- the step of a node, unless the disk failed or memory was wanted
   pub step : IsByTable reply → IfBothStates (seen old.disk) (seen new.disk) (λ before after. IsNodeStep cluster old.device (free_of before) message (folders_of before) (folders_of after) reply)
-  -- after a refusal the folders are as before, and so is what a crash leaves
-  pub kept : IsRefusal reply → Keeps seen left_since (λ name. ⊤) old.disk new.disk × HaveSameFloors new.floors old.floors
+  -- after a reply that changes nothing the folders are as before, and so is what a crash leaves
+  pub kept : IsUnchanging reply → Keeps seen left_since (λ name. ⊤) old.disk new.disk × HaveSameFloors new.floors old.floors
   -- after a failure the folder of the place is as before or as after, but for what is obsolete
   pub undecided : (place : PlaceModel) → place_in message ≡ Some place → IfBothStates (seen old.disk) (seen new.disk) (λ before after.
       IsBeforeOrAfter cluster old.device (free_of before) message place (folders_of before) (files_of (after.folder (folder_of place))))
-  -- and so is what a crash leaves at any moment within
-  pub crash : (place : PlaceModel) → place_in message ≡ Some place → IfSynced (seen old.disk) (folder_of place) (λ before.
+  -- what a crash since some moment before this call may have left there, it may have left without the call, or it is before or after the step
+  pub crash : (place : PlaceModel) → place_in message ≡ Some place → IfSynced (seen old.disk) (folder_of place) (λ before. (t : ℕ) (image : List File) →
+      t ≤ (seen old.disk).moment → left_since new.disk t (folder_of place) image →
+      left_since old.disk t (folder_of place) image ⊎ IsBeforeOrAfter cluster old.device (free_of before) message place (folders_of before) image)
+  -- so what a crash leaves at any moment within the call is before or after the step
+  pub crash_within : (place : PlaceModel) → place_in message ≡ Some place → IfSynced (seen old.disk) (folder_of place) (λ before.
       LeavesOnly left_since new.disk (seen old.disk).moment (folder_of place) (IsBeforeOrAfter cluster old.device (free_of before) message place (folders_of before)))
   pub synced : (place : PlaceModel) → place_in message ≡ Some place → IfBothStates (seen old.disk) (seen new.disk) (λ before after.
       AreSynced (files_of (before.folder (folder_of place))) → AreSynced (files_of (after.folder (folder_of place))))

@@ -12,7 +12,7 @@ ghost use Rattle.sw_diskfile.specs.Changes.{Keeps};
 ghost use Rattle.sw_message.specs.Table.{Allows, HandlesDelete, HasDurableFloor, Refuses};
 ghost use Rattle.sw_objsrv.specs.Folder.{HaveSameFloors, HaveSameOtherFloors, StaysInOrder};
 ghost use Rattle.sw_objsrv.specs.Handling.{Handles};
-ghost use Rattle.sw_objsrv.specs.Node.{IsRefusal};
+ghost use Rattle.sw_objsrv.specs.Node.{IsUnchanging};
 
 use crate::changing::make_and_purge;
 use crate::looking::look_at;
@@ -41,7 +41,7 @@ pub(crate) fn delete<D: Disk>(
     ensures unmade { (reason : ARefusal) → refusal_of result ≡ Some reason → reason ≢ Failed → Keeps D.seen D.left_since (λ name. ⊤) disk.old disk.new }
     ensures others { HaveSameOtherFloors place.now floors.new.floors floors.old.floors }
     ensures floors { OnErr result (HaveSameFloors floors.new.floors floors.old.floors) }
-    ensures same { IfOk result (λ reply. IsRefusal reply → HaveSameFloors floors.new.floors floors.old.floors) }
+    ensures same { IfOk result (λ reply. IsUnchanging reply → HaveSameFloors floors.new.floors floors.old.floors) }
     ensures stamped { stamp ≤ greatest_stamp }
     ensures power { floors.new.power ≡ floors.old.power }
 {

@@ -9,7 +9,7 @@ ghost use Rattle.sw_ring.specs.Cluster.{KeepsRules};
 ghost use Rattle.sw_message.specs.Message.{IsPlaceOf, place_in};
 ghost use Rattle.sw_objsrv.specs.Folder.{AreInOrder, HaveSameFloors};
 ghost use Rattle.sw_objsrv.specs.Handling.{IsAnswered, IsStamped};
-ghost use Rattle.sw_objsrv.specs.Node.{IsRefusal};
+ghost use Rattle.sw_objsrv.specs.Node.{IsUnchanging};
 
 use crate::committing::commit;
 use crate::deleting::delete;
@@ -40,7 +40,7 @@ pub(crate) fn answer<D: Disk>(
     ensures order { OnOk result (IfTold (D.seen disk.old).told (AreInOrder cluster.now device floors.old.floors) → IfTold (D.seen disk.new).told (AreInOrder cluster.now device floors.new.floors)) }
     ensures unmade { (reason : ARefusal) → refusal_of result ≡ Some reason → reason ≢ Failed → Keeps D.seen D.left_since (λ name. ⊤) disk.old disk.new }
     ensures floors { OnErr result (HaveSameFloors floors.new.floors floors.old.floors) }
-    ensures same { IfOk result (λ reply. IsRefusal reply → HaveSameFloors floors.new.floors floors.old.floors) }
+    ensures same { IfOk result (λ reply. IsUnchanging reply → HaveSameFloors floors.new.floors floors.old.floors) }
     ensures stamped { IsStamped msg.now }
     ensures power_is { floors.new.power ≡ floors.old.power }
 {

@@ -2,6 +2,7 @@
 
 ghost use Rattle.std.specs.Prelude.{◌≡◌, [], ◌∷◌, IfOk, OnOk};
 ghost use Rattle.sw_disk.specs.Runs.{IfTold};
+ghost use Rattle.sw_disk.specs.Used.{IsAccounted};
 ghost use Rattle.sw_hashpath.specs.Place.{PlaceModel};
 ghost use Rattle.sw_suffix.specs.Table.{floor_at};
 ghost use Rattle.sw_ring.specs.Cluster.{KeepsRules};
@@ -27,6 +28,7 @@ pub(crate) fn mount_places<D: Disk>(
 ) -> Result<SuffixTable, MountFault>
     ensures mounts { Mounts D.seen D.left_since cluster.now device (fault_of result) disk.old disk.new }
     ensures order { IfOk result (λ floors. IfTold (D.seen disk.new).told (AreInOrder cluster.now device floors.floors)) }
+    ensures accounted { OnOk result (IfTold (D.seen disk.new).told IsAccounted) }
     ensures power { IfOk result (λ floors. floors.power ≡ cluster.now.part_power) }
     ensures rules { KeepsRules cluster.now }
 {

@@ -14,7 +14,7 @@ ghost use Rattle.sw_message.specs.Table.{HandlesRemove};
 ghost use Rattle.sw_objsrv.specs.Changing.{Drops, LeavesOrder};
 ghost use Rattle.sw_objsrv.specs.Folder.{HaveSameFloors, HaveSameOtherFloors, StaysInOrder};
 ghost use Rattle.sw_objsrv.specs.Handling.{Handles};
-ghost use Rattle.sw_objsrv.specs.Node.{IsRefusal};
+ghost use Rattle.sw_objsrv.specs.Node.{IsUnchanging};
 
 use crate::floor_change::FloorChange;
 use crate::looking::{Looked, look_at};
@@ -44,7 +44,7 @@ pub(crate) fn remove<D: Disk>(
     ensures unmade { (reason : ARefusal) → refusal_of result ≡ Some reason → reason ≢ Failed → Keeps D.seen D.left_since (λ name. ⊤) disk.old disk.new }
     ensures others { HaveSameOtherFloors place.now floors.new.floors floors.old.floors }
     ensures floors { OnErr result (HaveSameFloors floors.new.floors floors.old.floors) }
-    ensures same { IfOk result (λ reply. IsRefusal reply → HaveSameFloors floors.new.floors floors.old.floors) }
+    ensures same { IfOk result (λ reply. IsUnchanging reply → HaveSameFloors floors.new.floors floors.old.floors) }
     ensures power { floors.new.power ≡ floors.old.power }
 {
     let looked = look_at(alloc, disk, place)?;

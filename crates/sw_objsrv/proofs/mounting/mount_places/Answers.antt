@@ -3,12 +3,14 @@ use Rattle.std.proofs.lemmas.List.{map-append, map_push, take-append-drop, take_
 use Rattle.std.proofs.lemmas.Result.{err_from_is_err_and}
 use Rattle.sw_disk.specs.Answers.{AreFolders, texts_of}
 use Rattle.sw_disk.specs.Runs.{IfTold}
+use Rattle.sw_disk.proofs.Used.{listed_accounted}
 use Rattle.sw_hashpath.specs.Place.{PlaceModel}
 use Rattle.sw_hashdir.specs.declared.floor.Floor.{Floor}
 use Rattle.sw_suffix.specs.Table.{SuffixTableModel}
 use Rattle.sw_diskfile.proofs.Lists.{Contains-cases, Contains-none}
 use Rattle.sw_objsrv.specs.Mounting.{TidiesEach, fault_of}
 use Rattle.sw_objsrv.specs.declared.fault.MountFault.{MountFault}
+use Rattle.sw_objsrv.proofs.Accounting.{mount_accounted}
 use Rattle.sw_objsrv.proofs.Keeping.{IsDisk}
 use Rattle.sw_objsrv.proofs.Mounted.{all_in_order, mounts}
 use Rattle.sw_objsrv.proofs.MountedFloors.{HaveFloors, floors_more, floors_none}
@@ -116,6 +118,12 @@ returns-clause-mounts g c =
     let are = subst (λ (l : List (String Global)). IfTold (seen c.args.disk.now).told (λ state. AreFolders state (texts_of l))) (sym (all ∙ c.deref-folder-items.ensures.value)) c.in_ok-folders.ensures.folders in
     mounts seen g.D.Disk.left_since cluster c.args.device g.D.Disk.tells (laws g) None c.loop-folder.floors.floors c.args.disk.now c.loop-folder.disk
     (inr (texts_of (take i items), are, c.folders.new.self, c.in_ok-folders.ensures.runs, c.loop-folder.invariant.tidies)) (λ _. returns-clause-order g c)
+
+-- what was listed is what is used
+pub returns-clause-accounted : goal.returns-clause-accounted
+returns-clause-accounted g c =
+    let listed = listed_accounted (g.D.Disk.seen c.args.disk.now).told (texts_of c.in_ok-folders.folders.items) c.in_ok-folders.ensures.folders c.in_ok-folders.ensures.used in
+    mount_accounted g.D.Disk.seen g.D.Disk.left_since c.args.cluster.now c.args.device None c.args.disk.now c.loop-folder.disk (returns-clause-mounts g c).calls listed
 
 pub returns-clause-power : goal.returns-clause-power
 returns-clause-power g c = c.loop-folder.invariant.power

@@ -25,6 +25,20 @@ returns-in-Ok-clause-handled g c =
     (handled seen left_since c.args.cluster.now c.args.msg.now old new (Ok c.in-Ok.reply) (g.met.D.Disk.now disk) (g.met.D.Disk.only_now disk) (g.met.D.Disk.earlier disk) node mounted
     all.unmade all.floors refl mounted c.requires.place all.stamped all.answered all.same)
 
+pub returns-in-Ok-clause-node : goal.returns-in-Ok-clause-node
+returns-in-Ok-clause-node g c =
+    let seen = g.D.Disk.seen in
+    let disk = c.self.inside.disk in
+    let later = c.answer-answered.new.disk in
+    let old = node_of disk c.self.inside.device c.self.inside.floors c.self.inside.is_due in
+    let new = node_of later c.self.inside.device c.answer-answered.new.floors c.self.inside.is_due in
+    let is : old ≡ c.args.self.now = c.self.view_is in
+    let mounted = ap (λ (o : NodeModel g.row.D.Denot). o.is_due) is ∙ c.requires.mounted in
+    let node = subst (IsNode c.args.cluster.now seen) (sym is) c.requires.node in
+    let all = c.in-Ok.ensures in
+    still_node seen g.D.Disk.left_since c.args.cluster.now c.args.msg.now old new (Ok c.in-Ok.reply) (g.met.D.Disk.now disk) (g.met.D.Disk.only_now disk) (g.met.D.Disk.earlier disk) node mounted
+    all.unmade all.floors refl mounted g.D.Disk.tells (g.met.D.Disk.telling disk) (g.met.D.Disk.telling later) all.power_is all.order all.answered
+
 pub returns-in-Err-clause-node : goal.returns-in-Err-clause-node
 returns-in-Err-clause-node g c =
     let seen = g.D.Disk.seen in
@@ -38,7 +52,7 @@ returns-in-Err-clause-node g c =
     let all = c.in-Err.ensures in
     let due : c.eq-self-inside.result ≡ has_failed (Err c.in-Err.refusal) = search rules in
     still_node seen g.D.Disk.left_since c.args.cluster.now c.args.msg.now old new (Err c.in-Err.refusal) (g.met.D.Disk.now disk) (g.met.D.Disk.only_now disk) (g.met.D.Disk.earlier disk) node mounted
-    all.unmade all.floors refl due g.D.Disk.tells (g.met.D.Disk.telling disk) (g.met.D.Disk.telling later) all.power_is all.order
+    all.unmade all.floors refl due g.D.Disk.tells (g.met.D.Disk.telling disk) (g.met.D.Disk.telling later) all.power_is all.order all.answered
 
 pub returns-in-Err-clause-handled : goal.returns-in-Err-clause-handled
 returns-in-Err-clause-handled g c =
