@@ -38,7 +38,7 @@ none-is key k (x ∷ xs) none = elim (cases_Bool (key x == k)) [
 pub apart-from_once : {A : Type 0} (key : A → ℕ) (xs : List A) → ((k : ℕ) → count_by (λ x. key x == k) xs ≤ 1) → AllPairs (λ a b. key a ≢ key b) xs
 apart-from_once key [] once = λ i j d less within. absurd (omega arith)
 apart-from_once key (x ∷ xs) once =
-    let here : cond (key x == key x) 1 0 ≡ 1 = ap one_if (eq-eqb (key x) (key x) refl) in
+    let here : one_if (key x == key x) ≡ 1 = ap one_if (eq-eqb (key x) (key x) refl) in
     AllPairs-cons (λ a b. key a ≢ key b) x xs
     (none-is key (key x) xs (omega (arith, once (key x), here, sum_by-cons (λ y. cond (key y == key x) 1 0) x xs)))
     (apart-from_once key xs (λ k. omega (arith, once k, sum_by-cons (λ y. cond (key y == k) 1 0) x xs)))
