@@ -1,9 +1,13 @@
 -- A put that handed out a message, took an answer, or ended.
 use Rattle.std.proofs.Common.{◌≡◌, ℕ, ◌+◌, ◌*◌, ◌≤◌, ◌<◌, ◌==◌, Bool, List, [], ◌∷◌, ◌++◌, append-nil, get_or, length, map, Option, Some, None, refl, sym, ap, subst, ◌∙◌, arith}
 use Rattle.std.specs.List.{find, range_with_len, slice_get, sum_by}
+use Rattle.std.proofs.lemmas.List.FromFn.{get_or-map-range_with_len, length-map-range_with_len}
 use Rattle.std.proofs.lemmas.Option.{none-some, same_Some, slice_get_within}
+use Rattle.sw_archive.specs.Put.{put_archive}
 use Rattle.sw_message.specs.Tickets.{AreTickets}
 use Rattle.sw_message.specs.Transcript.{Gave, Hand, Over, Step, Told, Wait, given, is_waiting, open_at, opens, told}
+use Rattle.sw_message.specs.declared.message.Msg.{Msg}
+use Rattle.sw_message.specs.declared.message.Msg.TheVariants.{PutFrag}
 use Rattle.sw_message.specs.declared.reply.Reply.{Reply}
 use Rattle.sw_message.specs.declared.sent.Sent.{Sent}
 use Rattle.sw_message.specs.declared.target.Target.{Target}
@@ -31,12 +35,18 @@ by_fields inside put begun past is stands = subst (λ (put : PutModel). Stands p
 abbrev pub stores_due_seen : PutModel → List Target
 stores_due_seen put = targets_from 0 put.primaries ++ replacements put.stores.missed put.handoffs
 
+abbrev pub due_seen : PutModel → List Errand
+due_seen put = map StoreAt (stores_due_seen put) ++ map CommitAt put.commits_due
+
 module _ (put : PutModel) (begun : Begun) (past : List Step) (stands : Stands put begun past) where
   pub stores_due_is : stores_due begun past ≡ stores_due_seen put
   stores_due_is =
       ap (λ devices. targets_from 0 devices ++ replacements (missed (stores past)) (handoffs begun)) (sym stands.primaries_are)
       ∙ ap (λ (counts : Counts Target). targets_from 0 put.primaries ++ replacements counts.missed (handoffs begun)) (sym stands.stores_are)
       ∙ ap (λ devices. targets_from 0 put.primaries ++ replacements put.stores.missed devices) (sym stands.handoffs_are)
+
+  pub due_is : due begun past ≡ due_seen put
+  due_is = ap (λ these. map StoreAt these ++ map CommitAt (commits_due begun past)) stores_due_is ∙ ap (λ these. map StoreAt (stores_due_seen put) ++ map CommitAt these) (sym stands.commits_due_are)
 
   pub stores_count : put.stores.answered ≡ length (stores past)
   stores_count = ap (λ (counts : Counts Target). counts.answered) stands.stores_are
@@ -57,6 +67,26 @@ module _ (put : PutModel) (begun : Begun) (past : List Step) (stands : Stands pu
       )
 
   -- ---- a message
+
+  -- the archive of an index
+  archive_is : (index : ℕ) → index < begun.cluster.policy.k + begun.cluster.policy.m
+      → get_or put.archives index [] ≡ put_archive begun.cluster.policy begun.stamp begun.name begun.object index
+  archive_is index below =
+      ap (λ these. get_or these index []) stands.archives_are
+      ∙ get_or-map-range_with_len (put_archive begun.cluster.policy begun.stamp begun.name begun.object) 0 (begun.cluster.policy.k + begun.cluster.policy.m) index index [] below (omega arith)
+
+  pub archives_length : length put.archives ≡ begun.cluster.policy.k + begun.cluster.policy.m
+  archives_length =
+      ap length stands.archives_are ∙ length-map-range_with_len (put_archive begun.cluster.policy begun.stamp begun.name begun.object) 0 (begun.cluster.policy.k + begun.cluster.policy.m)
+
+  pub fragment_is : (target : Target) (msg : Msg) → target.index < begun.cluster.policy.k + begun.cluster.policy.m → msg ≡ PutFrag put.place put.stamp target.index (get_or put.archives target.index [])
+      → (ticket : ℕ) → put_message begun ticket (StoreAt target) ≡ record { ticket = ticket; device = target.device; msg = msg }
+  fragment_is target msg below is ticket =
+      let sent : Msg → Sent = λ msg. record { ticket = ticket; device = target.device; msg = msg } in
+      ap (λ place. sent (PutFrag place begun.stamp target.index (put_archive begun.cluster.policy begun.stamp begun.name begun.object target.index))) (sym stands.place_is)
+      ∙ ap (λ stamp. sent (PutFrag put.place stamp target.index (put_archive begun.cluster.policy begun.stamp begun.name begun.object target.index))) (sym stands.stamp_is)
+      ∙ ap (λ bytes. sent (PutFrag put.place put.stamp target.index bytes)) (sym (archive_is target.index below))
+      ∙ ap sent (sym is)
 
   pub stands_handed : (flags : List Bool) (sent : Sent) → AreTickets flags (Gave sent ∷ past) → put_next begun past ≡ Hand sent → Stands (record put { tickets = flags }) begun (Gave sent ∷ past)
   stands_handed flags sent are is = record {

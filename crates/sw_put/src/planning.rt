@@ -68,9 +68,9 @@ pub(crate) fn told_misses(
 ) -> Result<Items<(u16, Miss)>, NoMemory>
     ensures { IfOk result (λ misses. misses ≡ told_misses missed.now) }
 {
-    let misses = missed
-        .iter()
-        .map(|(target, miss)| (target.device, *miss))
-        .collect::<Vec<(u16, Miss)>>(alloc)?;
+    let mut misses = Vec::new(alloc);
+    for one in missed {
+        misses.push((one.0.device, one.1))?;
+    }
     Ok(Items::from(misses))
 }
