@@ -12,20 +12,20 @@ use Rattle.sw_put.specs.Standing.{PutModel, Stands, most_messages}
 use Rattle.sw_put.proofs.Changes.{by_fields, due-few, due_is, due_seen, stands_handed}
 use Rattle.sw_put.proofs.put.PutOp.hand_out.Goals as goal
 
-abbrev seen : goal.After-hand_out → PutModel
+abbrev seen : goal.In_ok-ticket → PutModel
 seen c = put_seen c.self.inside
 
-abbrev sent : goal.After-hand_out → Sent
+abbrev sent : goal.In_ok-ticket → Sent
 sent c = record { ticket = c.in_ok-ticket.ticket; device = c.device-device.result; msg = c.in_ok-msg.msg }
 
 -- what is due
-found : (c : goal.After-hand_out) → slice_get (due_seen (seen c)) (length c.self.inside.tickets) ≡ Some c.args.errand
+found : (c : goal.In_ok-ticket) → slice_get (due_seen (seen c)) (length c.self.inside.tickets) ≡ Some c.args.errand
 found c = let is = c.requires in
     subst (λ (put : PutModel). slice_get (due_seen put) (length put.tickets) ≡ Some c.args.errand) (sym c.self.view_is)
     (ap (λ these. slice_get these (length c.args.self.now.tickets)) (sym (due_is _ is.0 is.1 is.2)) ∙ is.3)
 
 -- its message is handed out
-handed : (c : goal.After-hand_out) (begun : Begun) (past : List Step) → Stands c.args.self.now begun past → put_next begun past ≡ Hand (sent c)
+handed : (c : goal.In_ok-ticket) (begun : Begun) (past : List Step) → Stands c.args.self.now begun past → put_next begun past ≡ Hand (sent c)
 handed c begun past stands =
     let stood = by_fields c.self.inside c.args.self.now begun past c.self.view_is stands in
     let number : c.in_ok-ticket.ticket ≡ length (given past) = c.in_ok-ticket.ensures.ticket ∙ stood.tickets_are.count in
