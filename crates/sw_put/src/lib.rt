@@ -10,3 +10,6 @@ mod verdict;
 
 pub use crate::end::PutEnd;
 pub use crate::put::PutOp;
+
+#[cfg(test)]
+mod tests;
