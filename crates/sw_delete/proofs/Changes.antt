@@ -1,5 +1,5 @@
 -- A delete that handed out a message, took an answer, or ended.
-use Rattle.std.proofs.Common.{◌≡◌, ℕ, ◌+◌, ◌≤◌, ◌<◌, ◌==◌, Bool, true, ◌||◌, if◌then◌else◌, List, [], ◌∷◌, ◌++◌, length, take, Option, Some, None, sym, ap, subst, ◌∙◌, arith}
+use Rattle.std.proofs.Common.{◌≡◌, ℕ, ◌+◌, ◌≤◌, ◌<◌, ◌==◌, Bool, true, ◌||◌, if◌then◌else◌, List, [], ◌∷◌, ◌++◌, length, take, Option, Some, None, refl, sym, ap, subst, ◌∙◌, arith}
 use Rattle.std.specs.List.{find, slice_get}
 use Rattle.std.proofs.lemmas.Bool.{le-ltb, lt-ltb}
 use Rattle.std.proofs.lemmas.Option.{none-some, same_Some}
@@ -9,16 +9,16 @@ use Rattle.sw_message.specs.declared.message.Msg.TheVariants.{Delete}
 use Rattle.sw_message.specs.declared.reply.Reply.{Reply}
 use Rattle.sw_message.specs.declared.sent.Sent.{Sent}
 use Rattle.sw_quorum.specs.Answers.{Judged, missed}
-use Rattle.sw_quorum.specs.Lookups.{slice_get_none}
+use Rattle.sw_quorum.specs.DueLaws as laws
 use Rattle.sw_quorum.specs.Tally.{Counts, counts_of}
-use Rattle.sw_quorum.specs.Transcripts.{run-told, some_found, told-ignored, told-open, waiting-some}
-use Rattle.sw_delete.specs.Delete.{Begun, IsNext, delete_end, delete_message, delete_next, delete_or, delete_verdict, deletes, due, handoffs, says_existed}
+use Rattle.sw_quorum.specs.Transcripts.{run-told, some_found, told-ignored, told-open, told_count}
+use Rattle.sw_delete.specs.Delete.{Begun, IsNext, delete_end, delete_message, delete_next, delete_verdict, deletes, due, handoffs, says_existed}
 use Rattle.sw_delete.specs.Inside.{delete_seen}
 use Rattle.sw_delete.specs.Standing.{DeleteModel, Stands}
 use Rattle.sw_delete.specs.declared.delete.DeleteOp.TheInside.{Inside}
 use Rattle.sw_delete.specs.declared.end.DeleteEnd.{DeleteEnd}
-use Rattle.sw_delete.proofs.Dues.{due-few}
-use Rattle.sw_delete.proofs.Transcripts.{answers-and-opens, ended, given-within, open-delete, over-closed}
+use Rattle.sw_delete.proofs.Dues.{due-few, grew}
+use Rattle.sw_delete.proofs.Transcripts.{answers-and-opens, answers-are, ended, given-within, open-delete}
 
 -- where it has to go, by what is seen of it
 abbrev pub due_seen : DeleteModel → List ℕ
@@ -41,7 +41,7 @@ module _ (delete : DeleteModel) (begun : Begun) (past : List Step) (stands : Sta
       → delete_next begun past ≡ Hand (record { ticket = ticket; device = device; msg = Delete delete.place delete.stamp })
   hands ticket device is at =
       let number : ticket ≡ length (given past) = is ∙ stands.tickets_are.count in
-      ap (delete_or begun past) (ap (slice_get (due begun past)) (sym stands.tickets_are.count) ∙ ap (λ these. slice_get these (length delete.tickets)) due_is ∙ at)
+      laws.hands (delete_message begun) (due begun past) past device (ap (slice_get (due begun past)) (sym stands.tickets_are.count) ∙ ap (λ these. slice_get these (length delete.tickets)) due_is ∙ at)
       ∙ ap (λ n. Hand (delete_message begun n device)) (sym number)
       ∙ ap (λ place. Hand (record { ticket = ticket; device = device; msg = Delete place begun.stamp })) (sym stands.place_is)
       ∙ ap (λ stamp. Hand (record { ticket = ticket; device = device; msg = Delete delete.place stamp })) (sym stands.stamp_is)
@@ -79,7 +79,7 @@ module _ (delete : DeleteModel) (begun : Begun) (past : List Step) (stands : Sta
 
   no_longer : (ticket : ℕ) (sent : Sent) (end : DeleteEnd) → open_at ticket past ≡ Some sent → delete.end ≡ Some end → ⊥
   no_longer ticket sent end is ends =
-      let closed = over-closed begun past stands.run (ended begun past end (stands.end_is end ends)) in
+      let closed = laws.over-closed (delete_message begun) (λ n d. refl) (due begun) past stands.run (grew begun past) (ended begun past end (stands.end_is end ends)) in
       none-some sent (sym (ap (find (λ (one : Sent). one.ticket == ticket)) closed) ∙ is)
 
   pub stands_ignored : (flags : List Bool) (ticket : ℕ) (answer : Option Reply) → open_at ticket past ≡ None → AreTickets flags (told past ticket answer)
@@ -107,8 +107,8 @@ module _ (delete : DeleteModel) (begun : Begun) (past : List Step) (stands : Sta
       → Stands (record delete { tickets = flags; existed = existed; counts = counts }) begun (told past ticket answer)
   stands_told flags existed counts ticket device answer sent is at are existed_is taken =
       let known = open-delete begun past ticket sent stands.run is in
-      let same_device : known.0.device ≡ device = same_Some _ _ (sym known.0.is_due ∙ ap (slice_get (due begun past)) known.1 ∙ at) in
-      let message : sent ≡ delete_message begun sent.ticket device = known.0.message ∙ ap (delete_message begun sent.ticket) same_device in
+      let same_device : known.0.about ≡ device = same_Some _ _ (sym known.0.found ∙ ap (slice_get (due begun past)) known.1 ∙ at) in
+      let message : sent ≡ delete_message begun sent.ticket device = known.0.is ∙ ap (delete_message begun sent.ticket) same_device in
       let path = told-open past ticket answer sent is in
       subst (Stands (record delete { tickets = flags; existed = existed; counts = counts }) begun) (sym path) (record {
         valid = stands.valid;
@@ -128,20 +128,20 @@ module _ (delete : DeleteModel) (begun : Begun) (past : List Step) (stands : Sta
 
   -- ---- no message
 
-  answered_is : delete.counts.answered ≡ length (deletes past)
-  answered_is = ap (λ (counts : Counts ℕ). counts.answered) stands.counts_are
+  answered_is : delete.counts.answered ≡ told_count past
+  answered_is = ap (λ (counts : Counts ℕ). counts.answered) stands.counts_are ∙ answers-are begun past stands.run
 
   -- where none is due and answers are missing, it waits
   pub waits : slice_get (due begun past) (length (given past)) ≡ None → delete.counts.answered < length (due begun past) → delete_next begun past ≡ Wait
-  waits none few = ap (delete_or begun past) none ∙ ap (λ b. if b then Wait else Over) (lt-ltb (length (deletes past)) (length (due begun past)) (omega (arith, answered_is, few)))
+  waits none few = laws.waits (delete_message begun) (due begun past) past none (omega (arith, answered_is, few))
 
   -- for an open message
   pub waits_for : slice_get (due begun past) (length (given past)) ≡ None → delete.counts.answered < length (due begun past) → is_waiting past ≡ true
-  waits_for none few = waiting-some past (omega (arith, answered_is, few, slice_get_none (due begun past) (length (given past)) none, answers-and-opens begun past stands.run))
+  waits_for none few = laws.waits-for (delete_message begun) (λ n d. refl) (due begun) past stands.run none (omega (arith, answered_is, few))
 
   -- and where none is missing, it is over
   pub is_over : slice_get (due begun past) (length (given past)) ≡ None → length (due begun past) ≤ delete.counts.answered → delete_next begun past ≡ Over
-  is_over none all = ap (delete_or begun past) none ∙ ap (λ b. if b then Wait else Over) (le-ltb (length (deletes past)) (length (due begun past)) (omega (arith, answered_is, all)))
+  is_over none all = laws.is_over (delete_message begun) (due begun past) past none (omega (arith, answered_is, all))
 
   -- ---- the end
 

@@ -1,21 +1,22 @@
 -- The machine of a delete: it goes to the primaries, and for each miss to a handoff.
-use Rattle.std.specs.Prelude.{◌≡◌, ℕ, Bool, true, false, ◌||◌, if◌then◌else◌, nat_lt, List, [], ◌∷◌, ◌++◌, length, slice_get, take, Option, Some, None}
+use Rattle.std.specs.Prelude.{◌≡◌, ℕ, Bool, true, false, ◌||◌, if◌then◌else◌, nat_lt, List, [], ◌∷◌, ◌++◌, length, take, Option, Some, None}
 use Rattle.sw_types.specs.Name.{NameModel}
 use Rattle.sw_hashdir.specs.declared.floor.Floor.{Floor}
 use Rattle.sw_hashpath.specs.Place.{PlaceModel}
 use Rattle.sw_ring.specs.Cluster.{ClusterModel, KeepsRules, column_of, handoffs_of, place_of_name}
 use Rattle.sw_message.specs.Floors.{highest, refuses}
 use Rattle.sw_message.specs.Miss.{miss_of}
-use Rattle.sw_message.specs.Transcript.{Gave, Hand, Next, Over, Step, Told, Wait, given}
+use Rattle.sw_message.specs.Transcript.{Gave, Hand, Next, Over, Step, Told, Wait}
 use Rattle.sw_message.specs.declared.message.Msg.{Msg}
 use Rattle.sw_message.specs.declared.message.Msg.TheVariants.{Delete}
 use Rattle.sw_message.specs.declared.miss.Miss.TheVariants as miss
 use Rattle.sw_message.specs.declared.reply.Reply.{Reply}
 use Rattle.sw_message.specs.declared.reply.Reply.TheVariants as reply
 use Rattle.sw_message.specs.declared.sent.Sent.{Sent}
-use Rattle.sw_quorum.specs.Answers.{Judged, answers, done, floors, missed}
+use Rattle.sw_quorum.specs.Answers.{Judged, answers, done, floors, forbidden_if, missed}
+use Rattle.sw_quorum.specs.Dues.{due_next}
 use Rattle.sw_quorum.specs.declared.verdict.Verdict.{Verdict}
-use Rattle.sw_quorum.specs.declared.verdict.Verdict.TheVariants.{Done, Forbidden, Missed}
+use Rattle.sw_quorum.specs.declared.verdict.Verdict.TheVariants.{Done, Missed}
 use Rattle.sw_delete.specs.declared.end.DeleteEnd.{DeleteEnd}
 use Rattle.sw_delete.specs.declared.end.DeleteEnd.TheVariants as end
 
@@ -39,10 +40,6 @@ abbrev pub handoffs : Begun → List ℕ
 handoffs begun = handoffs_of begun.cluster (place_of begun).part
 
 -- ---- what answers mean
-
-abbrev pub forbidden_if : Bool → Floor → Verdict
-forbidden_if true floor = Forbidden floor
-forbidden_if false floor = Missed miss.Odd
 
 abbrev pub delete_verdict : ℕ → Option Reply → Verdict
 delete_verdict stamp None = Missed miss.NoReply
@@ -78,13 +75,9 @@ due begun past = primaries begun ++ take (length (missed (deletes past))) (hando
 abbrev pub delete_message : Begun → ℕ → ℕ → Sent
 delete_message begun ticket device = record { ticket = ticket; device = device; msg = Delete (place_of begun) begun.stamp }
 
-abbrev pub delete_or : Begun → List Step → Option ℕ → Next
-delete_or begun past (Some device) = Hand (delete_message begun (length (given past)) device)
-delete_or begun past None = if nat_lt (length (deletes past)) (length (due begun past)) then Wait else Over
-
 -- what comes after a transcript
 abbrev pub delete_next : Begun → List Step → Next
-delete_next begun past = delete_or begun past (slice_get (due begun past) (length (given past)))
+delete_next begun past = due_next (delete_message begun) (due begun past) past
 
 abbrev pub IsNext : Begun → List Step → Next → Type 0
 IsNext begun past next = delete_next begun past ≡ next

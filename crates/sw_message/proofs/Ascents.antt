@@ -92,6 +92,10 @@ all_with P target (other ∷ others) is all = cond_both (is_before target other)
     (λ _. All-cons P target (other ∷ others) is all)
     (λ _. All-cons P other (with_target target others) (All-head P other others all) (all_with P target others is (All-tail P other others all)))
 
+pub all_ascending : (P : Target → Type 0) (targets : List Target) → All P targets → All P (ascending targets)
+all_ascending P [] all = all
+all_ascending P (target ∷ targets) all = all_with P target (ascending targets) (All-head P target targets all) (all_ascending P targets (All-tail P target targets all))
+
 ascends_with : (target : Target) (targets : List Target) → Ascends targets → Ascends (with_target target targets)
 ascends_with target [] up = AllPairs-cons IsUpTo target [] (All-nil (IsUpTo target)) up
 ascends_with target (other ∷ others) up = cond_both (is_before target other) (target ∷ other ∷ others) (other ∷ with_target target others) Ascends
@@ -108,7 +112,8 @@ ascends : (targets : List Target) → Ascends (ascending targets)
 ascends [] = λ i j d below within. absurd (omega arith)
 ascends (target ∷ targets) = ascends_with target (ascending targets) (ascends targets)
 
-sum_ascending : (f : Target → ℕ) (targets : List Target) → sum_by f (ascending targets) ≡ sum_by f targets
+-- however they are counted, nothing is lost
+pub sum_ascending : (f : Target → ℕ) (targets : List Target) → sum_by f (ascending targets) ≡ sum_by f targets
 sum_ascending f [] = refl
 sum_ascending f (target ∷ targets) = omega (arith, sum_with f target (ascending targets), sum_by-cons f target targets, sum_ascending f targets)
 

@@ -1,5 +1,5 @@
 pub mod Ascending
-mod Ascents
+pub mod Ascents
 pub mod Directories
 mod Going
 mod Handlings

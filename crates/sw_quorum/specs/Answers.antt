@@ -1,12 +1,18 @@
 -- What the answers to a write say: what was done, which floors forbid it, and what was missed.
-use Rattle.std.specs.Prelude.{List, [], ◌∷◌, ◌++◌, flat_map, Option}
+use Rattle.std.specs.Prelude.{Bool, true, false, List, [], ◌∷◌, ◌++◌, flat_map, Option}
 use Rattle.sw_hashdir.specs.declared.floor.Floor.{Floor}
 use Rattle.sw_message.specs.Transcript.{Gave, Step, Told}
 use Rattle.sw_message.specs.declared.miss.Miss.{Miss}
+use Rattle.sw_message.specs.declared.miss.Miss.TheVariants as miss
 use Rattle.sw_message.specs.declared.reply.Reply.{Reply}
 use Rattle.sw_message.specs.declared.sent.Sent.{Sent}
 use Rattle.sw_quorum.specs.declared.verdict.Verdict.{Verdict}
 use Rattle.sw_quorum.specs.declared.verdict.Verdict.TheVariants.{Done, Forbidden, Missed}
+
+-- what a refusal by a floor means: it forbids the write, or it is odd
+abbrev pub forbidden_if : Bool → Floor → Verdict
+forbidden_if true floor = Forbidden floor
+forbidden_if false floor = Missed miss.Odd
 
 -- an answer, judged: what it is about, and what it means for that
 pub record Judged (T : Type 0) : Type 0 where

@@ -1,8 +1,11 @@
 -- What one answer more changes in what answers say.
-use Rattle.std.specs.Prelude.{◌≡◌, ℕ, ◌+◌, ◌≤◌, List, [], ◌∷◌, ◌++◌, length, Option, Some}
-use Rattle.std.proofs.Common.{append-nil, ap, arith, ◌∙◌}
+use Rattle.std.specs.Prelude.{◌≡◌, ℕ, ◌+◌, ◌≤◌, List, [], ◌∷◌, ◌++◌, flat_map, length, Option, Some}
+use Rattle.std.specs.List.{All, sum_by}
+use Rattle.std.proofs.Common.{append-nil, ap, arith, refl, ◌∙◌}
 use Rattle.std.proofs.lemmas.Grind.{flat_map-append}
 use Rattle.std.proofs.lemmas.List.{length-append}
+use Rattle.std.proofs.lemmas.List.Elements.{All-append, All-cons, All-nil, All-same}
+use Rattle.std.proofs.lemmas.List.Sums.{sum_by-append, sum_by-cons}
 use Rattle.sw_hashdir.specs.declared.floor.Floor.{Floor}
 use Rattle.sw_message.specs.FloorLaws.{highest-snoc}
 use Rattle.sw_message.specs.Floors.{higher, highest}
@@ -85,3 +88,58 @@ counts-within (one ∷ others) =
 pub missed-grows : {T : Type 0} (answers more : List (Judged T)) → length (missed answers) ≤ length (missed (answers ++ more))
 missed-grows {T} answers more =
     omega (arith, ap length (flat_map-append (λ (one : Judged T). missed_in one.about one.verdict) answers more), length-append (missed answers) (missed more))
+
+-- ---- however they are counted
+
+pub sum-ones : {A : Type 0} (xs : List A) → sum_by (λ x. 1) xs ≡ length xs
+sum-ones [] = refl
+sum-ones (x ∷ xs) = omega (arith, sum_by-cons (λ x. 1) x xs, sum-ones xs)
+
+abbrev pub forbidden_in : {T : Type 0} → T → Verdict → List T
+forbidden_in about Done = []
+forbidden_in about (Forbidden floor) = about ∷ []
+forbidden_in about (Missed miss) = []
+
+-- what a floor forbids
+abbrev pub forbidden : {T : Type 0} → List (Judged T) → List T
+forbidden {T} judged = flat_map (λ (one : Judged T). forbidden_in one.about one.verdict) judged
+
+module _ {T : Type 0} (w : T → ℕ) where
+  parts_of : (about : T) (verdict : Verdict) → sum_by w (done_in about verdict) + sum_by (λ (one : T × Miss). w one.0) (missed_in about verdict) + sum_by w (forbidden_in about verdict) ≡ w about
+  parts_of about Done = omega (arith, sum_by-cons w about [])
+  parts_of about (Forbidden floor) = omega (arith, sum_by-cons w about [])
+  parts_of about (Missed miss) = omega (arith, sum_by-cons (λ (one : T × Miss). w one.0) (about, miss) [])
+
+  -- each answer says that its write was done, missed or forbidden
+  pub parts : (judged : List (Judged T)) → sum_by w (done judged) + sum_by (λ (one : T × Miss). w one.0) (missed judged) + sum_by w (forbidden judged) ≡ sum_by (λ (one : Judged T). w one.about) judged
+  parts [] = refl
+  parts (one ∷ others) =
+      omega (
+        arith,
+        parts others,
+        parts_of one.about one.verdict,
+        sum_by-cons (λ (one : Judged T). w one.about) one others,
+        sum_by-append w (done_in one.about one.verdict) (done others),
+        sum_by-append (λ (one : T × Miss). w one.0) (missed_in one.about one.verdict) (missed others),
+        sum_by-append w (forbidden_in one.about one.verdict) (forbidden others),
+      )
+
+-- ---- what holds of each
+
+module _ {T : Type 0} where
+  done-of : (P : T → Type 0) (about : T) (verdict : Verdict) → (verdict ≡ Done → P about) → All P (done_in about verdict)
+  done-of P about Done holds = All-cons P about [] (holds refl) (All-nil P)
+  done-of P about (Forbidden floor) holds = All-nil P
+  done-of P about (Missed miss) holds = All-nil P
+
+  pub done-each : (P : T → Type 0) (answers : List (Judged T)) (about : T) (verdict : Verdict) → (verdict ≡ Done → P about) → All P (done answers) → All P (done (answers ++ judged about verdict ∷ []))
+  done-each P answers about verdict holds all = All-same P _ _ (done-more answers about verdict) (All-append P (done answers) (done_in about verdict) all (done-of P about verdict holds))
+
+  missed-of : (P : T × Miss → Type 0) (about : T) (verdict : Verdict) → ((miss : Miss) → verdict ≡ Missed miss → P (about, miss)) → All P (missed_in about verdict)
+  missed-of P about Done holds = All-nil P
+  missed-of P about (Forbidden floor) holds = All-nil P
+  missed-of P about (Missed miss) holds = All-cons P (about, miss) [] (holds miss refl) (All-nil P)
+
+  pub missed-each : (P : T × Miss → Type 0) (answers : List (Judged T)) (about : T) (verdict : Verdict) → ((miss : Miss) → verdict ≡ Missed miss → P (about, miss)) → All P (missed answers)
+      → All P (missed (answers ++ judged about verdict ∷ []))
+  missed-each P answers about verdict holds all = All-same P _ _ (missed-more answers about verdict) (All-append P (missed answers) (missed_in about verdict) all (missed-of P about verdict holds))

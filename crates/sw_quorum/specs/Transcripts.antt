@@ -1,11 +1,12 @@
 -- What every transcript keeps of a machine that numbers its messages.
 use Rattle.std.specs.Prelude.{◌≡◌, ◌≢◌, ℕ, zero, suc, ◌+◌, ◌<◌, ◌==◌, Bool, true, false, not, is_some, List, [], ◌∷◌, length, filter, find, Option, Some, None}
-use Rattle.std.specs.List.{All, AllPairs}
+use Rattle.std.specs.List.{All, AllPairs, sum_by}
 use Rattle.std.proofs.Common.{ap, arith, cond, inl, inr, refl, subst, sym, ◌∙◌}
 use Rattle.std.proofs.lemmas.Bool.{cases_Bool, cond-false, cond-true, eqb-true, ne_eqb}
 use Rattle.std.proofs.lemmas.List.{length-append}
 use Rattle.std.proofs.lemmas.List.Elements.{All-cons, All-filter, All-head, All-nil, All-tail, All-weaker}
 use Rattle.std.proofs.lemmas.List.Kept.{AllPairs-cons, AllPairs-filter}
+use Rattle.std.proofs.lemmas.List.Sums.{sum_by-append, sum_by-cons}
 use Rattle.std.proofs.lemmas.Option.{none-some, same_Some}
 use Rattle.sw_message.specs.Transcript.{Gave, Hand, IsRun, Next, Step, Told, given, is_empty, is_not, is_waiting, open_at, opens, told, told_of}
 use Rattle.sw_message.specs.declared.reply.Reply.{Reply}
@@ -21,6 +22,12 @@ abbrev pub told_count : List Step → ℕ
 told_count [] = 0
 told_count (Gave sent ∷ past) = told_count past
 told_count (Told sent answer ∷ past) = told_count past + 1
+
+-- those, the latest first
+abbrev pub closed : List Step → List Sent
+closed [] = []
+closed (Gave sent ∷ past) = closed past
+closed (Told sent answer ∷ past) = sent ∷ closed past
 
 abbrev pub has_ticket : ℕ → Sent → Bool
 has_ticket ticket sent = sent.ticket == ticket
@@ -103,6 +110,31 @@ one_fewer ticket (first ∷ sents) sent is apart = elim (cases_Bool (has_ticket 
       rw other (omega (arith, fewer))
 ]
 
+-- and there is as much less as it counts
+pub one_less : (f : Sent → ℕ) (ticket : ℕ) (sents : List Sent) (sent : Sent) → find (has_ticket ticket) sents ≡ Some sent → AllPairs HasOther sents
+    → sum_by f (filter (is_not ticket) sents) + f sent ≡ sum_by f sents
+one_less f ticket [] sent is apart = absurd (none-some sent is)
+one_less f ticket (first ∷ sents) sent is apart = elim (cases_Bool (has_ticket ticket first)) [
+  | inl has ↦
+      let others : All (λ (one : Sent). is_not ticket one ≡ true) sents =
+      λ i d within. ap not (ne_eqb _ ticket (λ same. apart zero (suc i) d (omega arith) (omega arith) (eqb-true first.ticket ticket has ∙ sym same))) in
+      let same : first ≡ sent = same_Some first sent (sym (cond-true (has_ticket ticket first) (Some first) (find (has_ticket ticket) sents) has) ∙ is) in
+      rw (has, all-kept ticket sents others) (omega (arith, ap f same, sum_by-cons f first sents))
+  | inr other ↦
+      let rest : AllPairs HasOther sents = λ i j d less within. apart (suc i) (suc j) d (omega arith) (omega arith) in
+      let less = one_less f ticket sents sent (sym (cond-false (has_ticket ticket first) (Some first) (find (has_ticket ticket) sents) other) ∙ is) rest in
+      rw other (omega (arith, less, sum_by-cons f first sents, sum_by-cons f first (filter (is_not ticket) sents)))
+]
+
+-- where each answer is judged by what it counts, so are those of a transcript
+pub answers-weigh : {T : Type 0} (judge : Sent → Option Reply → List (Judged T)) (w : T → ℕ) (f : Sent → ℕ)
+    → ((sent : Sent) (answer : Option Reply) → sum_by (λ (one : Judged T). w one.about) (judge sent answer) ≡ f sent)
+    → (past : List Step) → sum_by (λ (one : Judged T). w one.about) (answers judge past) ≡ sum_by f (closed past)
+answers-weigh judge w f each [] = refl
+answers-weigh judge w f each (Gave sent ∷ past) = answers-weigh judge w f each past
+answers-weigh {T} judge w f each (Told sent answer ∷ past) =
+    omega (arith, answers-weigh judge w f each past, each sent answer, sum_by-append (λ (one : Judged T). w one.about) (answers judge past) (judge sent answer), sum_by-cons f sent (closed past))
+
 -- ---- every transcript
 
 module _ (machine : List Step → Next → Type 0) where
@@ -125,6 +157,13 @@ module _ (machine : List Step → Next → Type 0) where
         apart = AllPairs-filter HasOther (is_not sent.ticket) (opens past) before.apart;
         count = omega (arith, before.count, one_fewer sent.ticket (opens past) sent run.0 before.apart);
       }
+
+  -- each message is open or told, whatever it counts
+  pub sums-keep : Numbers machine → (f : Sent → ℕ) (past : List Step) → IsRun machine past → sum_by f (closed past) + sum_by f (opens past) ≡ sum_by f (given past)
+  sums-keep numbers f [] run = refl
+  sums-keep numbers f (Gave sent ∷ past) run = omega (arith, sums-keep numbers f past run.1, sum_by-cons f sent (opens past), sum_by-cons f sent (given past))
+  sums-keep numbers f (Told sent answer ∷ past) run =
+      omega (arith, sums-keep numbers f past run.1, sum_by-cons f sent (closed past), one_less f sent.ticket (opens past) sent run.0 (numbered numbers past run.1).apart)
 
   -- what holds of a message when it is handed out, and stays so, holds of those that are open
   pub opens-keep : (P : List Step → Sent → Type 0) → ((past : List Step) (sent : Sent) → machine past (Hand sent) → P (Gave sent ∷ past) sent)

@@ -1,20 +1,21 @@
 -- An answer to an open message is taken, and another is ignored.
-use Rattle.std.proofs.Common.{◌≡◌, ◌++◌, ◌||◌, [], ◌∷◌, sym, ap, subst, ◌∙◌, arith}
+use Rattle.std.proofs.Common.{◌≡◌, ◌++◌, ◌||◌, [], ◌∷◌, refl, sym, ap, subst, ◌∙◌, arith}
 use Rattle.sw_message.specs.Transcript.{open_at, told}
+use Rattle.sw_quorum.specs.DueLaws.{never-open}
 use Rattle.sw_quorum.specs.Tally.{counts_of}
 use Rattle.sw_quorum.specs.Transcripts.{none_at, some_at, told-ignored}
 use Rattle.sw_quorum.specs.declared.verdict.Verdict.{Verdict}
-use Rattle.sw_delete.specs.Delete.{says_existed}
+use Rattle.sw_delete.specs.Delete.{delete_message, due, says_existed}
 use Rattle.sw_delete.specs.Inside.{delete_seen}
 use Rattle.sw_delete.specs.Standing.{DeleteModel, Stands}
 use Rattle.sw_delete.proofs.Changes.{answers_few, by_fields, stands_ignored, stands_told}
-use Rattle.sw_delete.proofs.Transcripts.{never-open}
+use Rattle.sw_delete.proofs.Dues.{grew}
 use Rattle.sw_delete.proofs.delete.DeleteOp.answer.Goals as goal
 use Rattle.sw_delete.proofs.delete.DeleteOp.answer.Goals.{then-self, else-self}
 
 pub returns-in_default-clause-stands : goal.returns-in_default-clause-stands
 returns-in_default-clause-stands c = λ begun past stands.
-    let none = never-open begun past c.args.ticket stands.run (sym (c.due.ensures begun past stands) ∙ c.in_default.is) in
+    let none = never-open (delete_message begun) (λ n d. refl) (due begun) past c.args.ticket stands.run (grew begun past) (sym (c.due.ensures begun past stands) ∙ c.in_default.is) in
     subst (λ path. Stands c.args.self.now begun path) (sym (told-ignored past c.args.ticket c.args.answer none)) stands
 
 pub take-requires : goal.take-requires

@@ -1,9 +1,9 @@
 -- There are few devices.
 use Rattle.std.proofs.Common.{ℕ, length, ap, arith}
 use Rattle.sw_quorum.specs.Laws.{counts-within}
+use Rattle.sw_quorum.specs.Places.{handoffs_few, primaries_few}
 use Rattle.sw_quorum.specs.Tally.{Counts}
-use Rattle.sw_delete.specs.Delete.{deletes}
-use Rattle.sw_delete.proofs.Devices.{handoffs_few, primaries_few}
+use Rattle.sw_delete.specs.Delete.{deletes, place_of}
 use Rattle.sw_delete.proofs.Dues.{due-few}
 use Rattle.sw_delete.proofs.Transcripts.{answers-and-opens, given-within}
 use Rattle.sw_delete.proofs.delete.DeleteOp.ending.Goals as goal
@@ -21,6 +21,6 @@ overflow_cast-marks c =
       answers-and-opens begun past stood.run,
       given-within begun past stood.run,
       due-few begun past,
-      primaries_few begun stood.valid,
-      handoffs_few begun stood.valid,
+      primaries_few begun.cluster (place_of begun).part stood.valid.rules,
+      handoffs_few begun.cluster (place_of begun).part stood.valid.rules,
     )

@@ -1,5 +1,5 @@
 -- A delete hands out what is due, waits for answers, and then ends.
-use Rattle.std.proofs.Common.{◌≡◌, ◌<◌, inl, inr, List, length, None, is_some, refl, sym, ap, ◌∙◌, arith}
+use Rattle.std.proofs.Common.{◌≡◌, ◌<◌, inl, inr, List, length, None, is_some, refl, sym, ap, subst, ◌∙◌, arith}
 use Rattle.std.specs.List.{slice_get}
 use Rattle.sw_message.specs.Transcript.{Over, Step, given}
 use Rattle.sw_delete.specs.Delete.{Begun, delete_next, due}
@@ -49,3 +49,14 @@ pub returns-clause-goes_on : goal.returns-clause-goes_on
 returns-clause-goes_on c = λ begun past stands.
     stands_ended (delete_seen c.self.inside) begun past (by_fields c.self.inside c.args.self.now begun past c.self.view_is stands) c.in_ok-ending.field-0
     (c.in_ok-ending.ensures begun past stands (over c begun past stands))
+
+pub invariant_of-self : goal.invariant_of-self
+invariant_of-self c =
+    let stood = c.self.invariant.0 in
+    let begun = stood.0 in
+    let past = stood.1 in
+    let stands : Stands c.args.self.now begun past = subst (λ (delete : DeleteModel). Stands delete begun past) c.self.view_is stood.2 in
+    let over = is_over (delete_seen c.self.inside) begun past stood.2
+        (ap (slice_get (due begun past)) (sym (c.count-count.ensures.given past stood.2.tickets_are)) ∙ sym (c.due.ensures begun past stands) ∙ c.in_default.is)
+        (omega (arith, c.if-answered-due_count.false, c.answered.ensures, c.due_count.ensures begun past stands)) in
+    ((begun, past, stands_ended (delete_seen c.self.inside) begun past stood.2 c.in_ok-ending.field-0 (c.in_ok-ending.ensures begun past stands over)), c.self.invariant.1)

@@ -1,0 +1,4 @@
+pub mod Inside
+pub mod Plans
+pub mod Put
+pub mod Standing

@@ -1,0 +1,15 @@
+//! Puts, as operations: fragments at the primaries or handoffs of a place, and then commits.
+#![tactic(auto)]
+
+mod end;
+mod errand;
+mod operation;
+mod planning;
+mod put;
+mod verdict;
+
+pub use crate::end::PutEnd;
+pub use crate::put::PutOp;
+
+#[cfg(test)]
+mod tests;
