@@ -26,6 +26,7 @@ use Rattle.sw_quorum.specs.Laws.{done-each, missed-each}
 use Rattle.sw_quorum.specs.Places.{handoffs_apart, handoffs_known, part_small}
 use Rattle.sw_quorum.specs.declared.verdict.Verdict.{Verdict}
 use Rattle.sw_quorum.specs.declared.verdict.Verdict.TheVariants.{Done}
+use Rattle.sw_put.specs.Causes.{WasStored}
 use Rattle.sw_put.specs.Put.{Begun, IsBegun, IsNext, commits_due, due, handoffs, place_of, primaries, put_message, replacements, store_verdict, stores, stores_due, targets_from}
 use Rattle.sw_put.specs.declared.errand.Errand.{Errand}
 use Rattle.sw_put.specs.declared.errand.Errand.TheVariants.{CommitAt, StoreAt}
@@ -38,10 +39,6 @@ pub record IsFit (begun : Begun) (target : Target) : Type 0 where
   pub home : IsHome begun.cluster (place_of begun) target
   pub member : IsMember begun.cluster target.device
   pub below : target.index < begun.cluster.policy.k + begun.cluster.policy.m
-
--- a fragment was stored, as its answer said
-abbrev pub WasStored : Begun → List Step → Target → Type 0
-WasStored begun past target = (ticket : ℕ) × Contains past (Told (put_message begun ticket (StoreAt target)) (Some reply.Synced))
 
 -- an errand goes to such a target, and a commit goes out where enough were stored
 abbrev pub Fits : Begun → List Step → Errand → Type 0

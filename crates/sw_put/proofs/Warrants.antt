@@ -16,10 +16,11 @@ use Rattle.sw_archive.specs.Put.{put_archive}
 use Rattle.sw_quorum.specs.Answers.{done, missed}
 use Rattle.sw_quorum.specs.Laws.{parts}
 use Rattle.sw_quorum.specs.Places.{apart-from_once, device_once, one_if, part_small, place_right}
+use Rattle.sw_put.specs.Causes.{WasStored}
 use Rattle.sw_put.specs.Put.{Begun, IsBegun, IsNext, due, handoffs, place_of, primaries, put_message, replacements, stores, stores_due, targets_from}
 use Rattle.sw_put.specs.declared.errand.Errand.{Errand}
 use Rattle.sw_put.specs.declared.errand.Errand.TheVariants.{CommitAt, StoreAt}
-use Rattle.sw_put.proofs.Homes.{Fits, IsFit, WasStored, fits, known}
+use Rattle.sw_put.proofs.Homes.{Fits, IsFit, fits, known}
 use Rattle.sw_put.proofs.Transcripts.{IsPut, grew, stores-balance}
 use Rattle.sw_put.proofs.Weights.{handoffs-devices, has_device, has_index, primaries-devices, primary-once, replaced}
 
