@@ -170,12 +170,12 @@ module _ (begun : Begun) where
   counted-here : (past : List Step) (ticket : ℕ) (errand : Errand) (floor : Floor) → stands_above floor begun.stamp ≡ true → IsCounted (Told (put_message begun ticket errand) (Some (reply.Superseded floor)) ∷ past) floor
   counted-here past ticket (StoreAt target) floor above =
       inl (subst (λ these. Contains these floor)
-        (sym (floors-more (stores past) target (forbidden_if (stands_above floor begun.stamp) floor) ∙ ap (λ b. floors (stores past) ++ floors_from (forbidden_if b floor)) above))
-        (Contains-push (floors (stores past)) floor))
+      (sym (floors-more (stores past) target (forbidden_if (stands_above floor begun.stamp) floor) ∙ ap (λ b. floors (stores past) ++ floors_from (forbidden_if b floor)) above))
+      (Contains-push (floors (stores past)) floor))
   counted-here past ticket (CommitAt target) floor above =
       inr (subst (λ these. Contains these floor)
-        (sym (floors-more (commits past) target (forbidden_if (stands_above floor begun.stamp) floor) ∙ ap (λ b. floors (commits past) ++ floors_from (forbidden_if b floor)) above))
-        (Contains-push (floors (commits past)) floor))
+      (sym (floors-more (commits past) target (forbidden_if (stands_above floor begun.stamp) floor) ∙ ap (λ b. floors (commits past) ++ floors_from (forbidden_if b floor)) above))
+      (Contains-push (floors (commits past)) floor))
 
   still-counted : (past : List Step) (sent : Sent) (answer : Option Reply) (floor : Floor) → IsCounted past floor → IsCounted (Told sent answer ∷ past) floor
   still-counted past sent answer floor (inl has) = inl (floor-stays (stores past) (judge_store sent.device sent.msg answer) floor has)

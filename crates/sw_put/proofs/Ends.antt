@@ -100,7 +100,7 @@ module _ (begun : Begun) (judged : List (Judged Target)) where
       let refused = is_some (highest (floors judged)) || nat_lt (length (done judged)) begun.cluster.policy.q in
       cond-true (settled && not refused) (ascending (done judged)) []
       (and_from settled (not refused) (ap not (le-ltb (length judged) (length (stores_due_by begun judged)) all))
-        (ap not (or_from (is_some (highest (floors judged))) (nat_lt (length (done judged)) begun.cluster.policy.q) (ap is_some none) (le-ltb (length (done judged)) begun.cluster.policy.q enough))))
+      (ap not (or_from (is_some (highest (floors judged))) (nat_lt (length (done judged)) begun.cluster.policy.q) (ap is_some none) (le-ltb (length (done judged)) begun.cluster.policy.q enough))))
 
   -- it counts no more than what is stored
   plan-within : (w : Target → ℕ) → sum_by w (commits_due_by begun judged) ≤ sum_by w (done judged)
@@ -222,13 +222,13 @@ module _ (begun : Begun) (past : List Step) (valid : IsBegun begun) (run : IsRun
     | inl some ↦ inl (some-counted (λ (target : Target). target.index) index (done (stores past)) some)
     | inr few ↦
         let some : 0 < sum_by (λ (one : Target × Miss). has_index index one.0) (missed (stores past)) =
-            omega (
-              arith,
-              few,
-              stores-parts (has_index index) none,
-              sum_by-append (has_index index) (targets_from 0 (primaries begun)) (replacements (missed (stores past)) (handoffs begun)),
-              primary-there 0 (primaries begun) index (omega arith) (omega (arith, below, column_length begun.cluster (place_of begun).part valid.rules)),
-            ) in
+        omega (
+          arith,
+          few,
+          stores-parts (has_index index) none,
+          sum_by-append (has_index index) (targets_from 0 (primaries begun)) (replacements (missed (stores past)) (handoffs begun)),
+          primary-there 0 (primaries begun) index (omega arith) (omega (arith, below, column_length begun.cluster (place_of begun).part valid.rules)),
+        ) in
         let one = some-counted (λ (one : Target × Miss). one.0.index) index (missed (stores past)) some in
         inr (one.0.0, one.0.1, one.2, All-contains (λ (one : Target × Miss). WasMissed begun past one.0 one.1) (missed (stores past)) one.0 (told-all begun valid past run).misses one.1)
   ]
@@ -240,30 +240,30 @@ module _ (begun : Begun) (past : List Step) (valid : IsBegun begun) (run : IsRun
       let ms = missed (stores past) in
       let front : List Target = targets_from 0 (primaries begun) in
       let many : length (handoffs begun) ≤ length ms =
-          omega (
-            arith,
-            few,
-            stores-parts (λ _. 1) none,
-            sum-ones (done (stores past)),
-            sum-ones ms,
-            sum-ones (stores_due begun past),
-            length-stores_due begun (stores past),
-            column_length begun.cluster (place_of begun).part valid.rules,
-            quorum_within begun valid,
-          ) in
+      omega (
+        arith,
+        few,
+        stores-parts (λ _. 1) none,
+        sum-ones (done (stores past)),
+        sum-ones ms,
+        sum-ones (stores_due begun past),
+        length-stores_due begun (stores past),
+        column_length begun.cluster (place_of begun).part valid.rules,
+        quorum_within begun valid,
+      ) in
       let no_miss : Target × Miss = (record { index = 0; device = 0 }, NoReply) in
       let one = get_or ms i no_miss in
       let target : Target = record { index = one.0.index; device = get_or (handoffs begun) i d } in
       let replaced : slice_get (replacements ms (handoffs begun)) i ≡ Some target =
-          replacement-at ms (handoffs begun) i
-          ∙ ap (λ miss. replacement miss (slice_get (handoffs begun) i)) (slice_get-get_or ms i no_miss (omega (arith, many, within)))
-          ∙ ap (replacement (Some one)) (slice_get-get_or (handoffs begun) i d within) in
+      replacement-at ms (handoffs begun) i
+      ∙ ap (λ miss. replacement miss (slice_get (handoffs begun) i)) (slice_get-get_or ms i no_miss (omega (arith, many, within)))
+      ∙ ap (replacement (Some one)) (slice_get-get_or (handoffs begun) i d within) in
       let ticket : ℕ = length front + i in
       let stored : slice_get (stores_due begun past) ticket ≡ Some target =
-          slice_get-behind front (replacements ms (handoffs begun)) ticket (omega arith) ∙ ap (slice_get (replacements ms (handoffs begun))) (omega arith) ∙ replaced in
+      slice_get-behind front (replacements ms (handoffs begun)) ticket (omega arith) ∙ ap (slice_get (replacements ms (handoffs begun))) (omega arith) ∙ replaced in
       let found = store-at (stores_due begun past) (commits_due begun past) ticket target stored in
       let given_all : ticket < length (given past) =
-          omega (arith, slice_get_within (due begun past) ticket (StoreAt target) found, (laws.over (put_message begun) (due begun past) past over).0) in
+      omega (arith, slice_get_within (due begun past) ticket (StoreAt target) found, (laws.over (put_message begun) (due begun past) past over).0) in
       (target.index, (ticket, laws.handed-out (put_message begun) (own begun) (due begun) past ticket (StoreAt target) run (grew begun past run) given_all found))
 
   pub too_few_synced : (have : ℕ) (told : List (ℕ × Miss)) → Settled begun past (TooFewSynced have told) → IsTooFewSynced begun past have told
@@ -297,7 +297,7 @@ module _ (begun : Begun) (past : List Step) (valid : IsBegun begun) (run : IsRun
       let no_floors : floors (commits past) ≡ [] = subst (IsHighest (floors (commits past))) no_floor (is_highest (floors (commits past))) in
       let device_miss : Target × Miss → ℕ × Miss = λ one. (one.0.device, one.1) in
       let size : length (commits_due begun past) ≡ length (done (stores past)) =
-          ap length (whole-plan begun (stores past) (omega (arith, all_stored)) none enough) ∙ sym (sum-ones (ascending (done (stores past)))) ∙ sum_ascending (λ _. 1) (done (stores past)) ∙ sum-ones (done (stores past)) in
+      ap length (whole-plan begun (stores past) (omega (arith, all_stored)) none enough) ∙ sym (sum-ones (ascending (done (stores past)))) ∙ sum_ascending (λ _. 1) (done (stores past)) ∙ sum-ones (done (stores past)) in
       record {
         few = omega (arith, number, few);
         no_floor = no_told none no_floor;

@@ -77,8 +77,8 @@ module _ (begun : Begun) (valid : IsBegun begun) where
       All-append (IsFit begun) (targets_from 0 (primaries begun)) (replacements misses (handoffs begun))
       (All-weaker (λ (target : Target). (slice_get (primaries begun) target.index ≡ Some target.device) × (target.index < length (primaries begun))) (IsFit begun) primary-fit (targets_from 0 (primaries begun)) (primaries-each (primaries begun)))
       (replacements-each (IsFit begun) (λ (miss : Target × Miss). IsFit begun miss.0)
-        (λ handoff. IsMember begun.cluster handoff × (is_among (column_of begun.cluster (place_of begun).part) handoff ≡ false))
-        (λ miss handoff fit known. record { home = inr known.1; member = known.0; below = fit.below }) misses (handoffs begun) all spare)
+      (λ handoff. IsMember begun.cluster handoff × (is_among (column_of begun.cluster (place_of begun).part) handoff ≡ false))
+      (λ miss handoff fit known. record { home = inr known.1; member = known.0; below = fit.below }) misses (handoffs begun) all spare)
 
   commits-enough : (past : List Step) → All (λ (target : Target). begun.cluster.policy.q ≤ length (done (stores past))) (commits_due begun past)
   commits-enough past =
@@ -106,7 +106,7 @@ module _ (begun : Begun) (valid : IsBegun begun) where
       All-append (Fits begun past) (map StoreAt (stores_due begun past)) (map CommitAt (commits_due begun past))
       (All-map (Fits begun past) StoreAt (stores_due begun past) (due-fit (missed (stores past)) known.misses))
       (All-map (Fits begun past) CommitAt (commits_due begun past)
-        (λ i d within. (commits-each (λ (target : Target). IsFit begun target × WasStored begun past target) past known.stored i d within, commits-enough past i d within)))
+      (λ i d within. (commits-each (λ (target : Target). IsFit begun target × WasStored begun past target) past known.stored i d within, commits-enough past i d within)))
 
   at : (past : List Step) (number : ℕ) (errand : Errand) → AreKnown past → slice_get (due begun past) number ≡ Some errand → Fits begun past errand
   at past number errand known is =

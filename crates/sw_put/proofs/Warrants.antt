@@ -80,8 +80,10 @@ module _ (begun : Begun) (learnt : Learnt) where
         devices = devices-apart begun past run valid;
         homes = All-weaker (λ target. IsFit begun target × WasStored begun past target) _ (λ target was. was.0.home) (done (stores past)) all;
         synced = All-weaker (λ target. IsFit begun target × WasStored begun past target) (IsSynced learnt.heard (place_of begun) begun.stamp)
-            (λ target was. (put_archive begun.cluster.policy begun.stamp begun.name begun.object target.index,
-              (reply_known past (put_message begun was.1.0 (StoreAt target)) reply.Synced knows was.1.1).0 (λ same. cc)))
+            (λ target was. (
+              put_archive begun.cluster.policy begun.stamp begun.name begun.object target.index,
+              (reply_known past (put_message begun was.1.0 (StoreAt target)) reply.Synced knows was.1.1).0 (λ same. cc),
+            ))
             (done (stores past)) all;
       }
 

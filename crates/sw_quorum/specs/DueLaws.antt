@@ -79,8 +79,8 @@ module _ {D : Type 0} (message : ℕ → D → Sent) (own : (ticket : ℕ) (abou
     opened past run grew =
         All-weaker (λ sent. Grew due past → IsDue message (due past) sent) (IsDue message (due past)) (λ sent known. known grew) (opens past)
         (opens-keep IsNext (λ past sent. Grew due past → IsDue message (due past) sent)
-          (λ past sent is grew. stays (due past) (due (Gave sent ∷ past)) sent grew.0 (handed (due past) past sent is).1)
-          (λ past step sent known grew. stays (due past) (due (step ∷ past)) sent grew.0 (known grew.1)) past run)
+        (λ past sent is grew. stays (due past) (due (Gave sent ∷ past)) sent grew.0 (handed (due past) past sent is).1)
+        (λ past step sent known grew. stays (due past) (due (step ∷ past)) sent grew.0 (known grew.1)) past run)
 
     pub open-due : (past : List Step) (ticket : ℕ) (sent : Sent) → IsRun IsNext past → Grew due past → open_at ticket past ≡ Some sent → IsDue message (due past) sent × (sent.ticket ≡ ticket)
     open-due past ticket sent run grew is = found (IsDue message (due past)) ticket (opens past) sent is (opened past run grew)
@@ -163,8 +163,13 @@ module _ {D : Type 0} (message : ℕ → D → Sent) (own : (ticket : ℕ) (abou
           let weight : f sent ≡ h is.1.about = ap f is.1.is ∙ same sent.ticket is.1.about in
           let more : n + 1 ≡ length (given (Gave sent ∷ past)) = omega arith in
           sum_by-cons f sent (given past)
-          ∙ omega (arith, weight, given-due past run.1 grew.1, taken-more (due past) n is.1.about at,
-              taken-longer (due past) (due (Gave sent ∷ past)) (n + 1) grew.0 (omega (arith, slice_get_within (due past) n is.1.about at)))
+          ∙ omega (
+            arith,
+            weight,
+            given-due past run.1 grew.1,
+            taken-more (due past) n is.1.about at,
+            taken-longer (due past) (due (Gave sent ∷ past)) (n + 1) grew.0 (omega (arith, slice_get_within (due past) n is.1.about at)),
+          )
           ∙ ap (λ k. sum_by h (take k (due (Gave sent ∷ past)))) more
       given-due (Told sent answer ∷ past) run grew =
           given-due past run.1 grew.1 ∙ sym (taken-longer (due past) (due (Told sent answer ∷ past)) (length (given past)) grew.0 (given-within past run.1 grew.1))

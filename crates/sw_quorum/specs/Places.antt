@@ -121,6 +121,9 @@ module _ (cluster : ClusterModel) (part : ℕ) where
         All-weaker (λ id. is_among (column_of cluster part) id ≡ true) (λ id. id ≢ device) (λ id is same. true≢false (sym is ∙ ap (is_among (column_of cluster part)) same ∙ none)) (column_of cluster part)
         (All-weaker _ (λ id. is_among (column_of cluster part) id ≡ true) (among-from_Contains (column_of cluster part)) (column_of cluster part) (All-contains_itself (column_of cluster part))) in
         let ids_apart : AllPairs (λ a b. a ≢ b) (ids_of cluster) = λ i j d less within same. absurd (omega (arith, same, AllPairs-from_increasing (ids_of cluster) rules.ascending i j d less within)) in
-        omega (arith, none-counted device (column_of cluster part) others,
-          once-apart device (handoffs_of cluster part) (AllPairs-filter (λ a b. a ≢ b) (λ id. not (is_among (column_of cluster part) id)) (ids_of cluster) ids_apart))
+        omega (
+          arith,
+          none-counted device (column_of cluster part) others,
+          once-apart device (handoffs_of cluster part) (AllPairs-filter (λ a b. a ≢ b) (λ id. not (is_among (column_of cluster part) id)) (ids_of cluster) ids_apart),
+        )
   ]
