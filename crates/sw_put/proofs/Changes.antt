@@ -169,7 +169,7 @@ module _ (put : PutModel) (begun : Begun) (past : List Step) (stands : Stands pu
         let path = told-open past ticket answer sent is in
         let after : List (Judged Target) = stores past ++ record { about = target; verdict = store_verdict begun.stamp answer } ∷ [] in
         let stored : counts ≡ counts_of after =
-            taken (stores past) stands.stores_are ∙ ap (λ stamp. counts_of (stores past ++ record { about = target; verdict = store_verdict stamp answer } ∷ [])) stands.stamp_is in
+        taken (stores past) stands.stores_are ∙ ap (λ stamp. counts_of (stores past ++ record { about = target; verdict = store_verdict stamp answer } ∷ [])) stands.stamp_is in
         subst (Stands (record put { tickets = flags; stores = counts; commits_due = plans }) begun) (sym path) (record {
           valid = stands.valid;
           run = run-told (IsNext begun) past ticket answer sent is stands.run;

@@ -26,6 +26,7 @@ use Rattle.sw_quorum.specs.Laws.{done-each, missed-each}
 use Rattle.sw_quorum.specs.Places.{handoffs_apart, handoffs_known, part_small}
 use Rattle.sw_quorum.specs.declared.verdict.Verdict.{Verdict}
 use Rattle.sw_quorum.specs.declared.verdict.Verdict.TheVariants.{Done}
+use Rattle.sw_put.specs.Causes.{WasStored}
 use Rattle.sw_put.specs.Put.{Begun, IsBegun, IsNext, commits_due, due, handoffs, place_of, primaries, put_message, replacements, store_verdict, stores, stores_due, targets_from}
 use Rattle.sw_put.specs.declared.errand.Errand.{Errand}
 use Rattle.sw_put.specs.declared.errand.Errand.TheVariants.{CommitAt, StoreAt}
@@ -38,10 +39,6 @@ pub record IsFit (begun : Begun) (target : Target) : Type 0 where
   pub home : IsHome begun.cluster (place_of begun) target
   pub member : IsMember begun.cluster target.device
   pub below : target.index < begun.cluster.policy.k + begun.cluster.policy.m
-
--- a fragment was stored, as its answer said
-abbrev pub WasStored : Begun → List Step → Target → Type 0
-WasStored begun past target = (ticket : ℕ) × Contains past (Told (put_message begun ticket (StoreAt target)) (Some reply.Synced))
 
 -- an errand goes to such a target, and a commit goes out where enough were stored
 abbrev pub Fits : Begun → List Step → Errand → Type 0
@@ -80,8 +77,8 @@ module _ (begun : Begun) (valid : IsBegun begun) where
       All-append (IsFit begun) (targets_from 0 (primaries begun)) (replacements misses (handoffs begun))
       (All-weaker (λ (target : Target). (slice_get (primaries begun) target.index ≡ Some target.device) × (target.index < length (primaries begun))) (IsFit begun) primary-fit (targets_from 0 (primaries begun)) (primaries-each (primaries begun)))
       (replacements-each (IsFit begun) (λ (miss : Target × Miss). IsFit begun miss.0)
-        (λ handoff. IsMember begun.cluster handoff × (is_among (column_of begun.cluster (place_of begun).part) handoff ≡ false))
-        (λ miss handoff fit known. record { home = inr known.1; member = known.0; below = fit.below }) misses (handoffs begun) all spare)
+      (λ handoff. IsMember begun.cluster handoff × (is_among (column_of begun.cluster (place_of begun).part) handoff ≡ false))
+      (λ miss handoff fit known. record { home = inr known.1; member = known.0; below = fit.below }) misses (handoffs begun) all spare)
 
   commits-enough : (past : List Step) → All (λ (target : Target). begun.cluster.policy.q ≤ length (done (stores past))) (commits_due begun past)
   commits-enough past =
@@ -109,7 +106,7 @@ module _ (begun : Begun) (valid : IsBegun begun) where
       All-append (Fits begun past) (map StoreAt (stores_due begun past)) (map CommitAt (commits_due begun past))
       (All-map (Fits begun past) StoreAt (stores_due begun past) (due-fit (missed (stores past)) known.misses))
       (All-map (Fits begun past) CommitAt (commits_due begun past)
-        (λ i d within. (commits-each (λ (target : Target). IsFit begun target × WasStored begun past target) past known.stored i d within, commits-enough past i d within)))
+      (λ i d within. (commits-each (λ (target : Target). IsFit begun target × WasStored begun past target) past known.stored i d within, commits-enough past i d within)))
 
   at : (past : List Step) (number : ℕ) (errand : Errand) → AreKnown past → slice_get (due begun past) number ≡ Some errand → Fits begun past errand
   at past number errand known is =

@@ -115,17 +115,17 @@ module _ (begun : Begun) (past : List Step) (ticket : ℕ) (target : Target) (an
       let front : List Target = targets_from 0 (primaries begun) in
       let grows = replacements-more (missed (stores past)) (missed_in target (store_verdict begun.stamp answer)) (handoffs begun) in
       let more : stores_due_by begun after ≡ stores_due begun past ++ grows.0 =
-          ap (λ these. front ++ replacements these (handoffs begun)) (missed-more (stores past) target (store_verdict begun.stamp answer))
-          ∙ ap (λ these. front ++ these) grows.1
-          ∙ sym (append_assoc front (replacements (missed (stores past)) (handoffs begun)) grows.0) in
+      ap (λ these. front ++ replacements these (handoffs begun)) (missed-more (stores past) target (store_verdict begun.stamp answer))
+      ∙ ap (λ these. front ++ these) grows.1
+      ∙ sym (append_assoc front (replacements (missed (stores past)) (handoffs begun)) grows.0) in
       let later : List Errand = map CommitAt (commits_due_by begun after) in
       let before : due begun past ≡ map StoreAt (stores_due begun past) =
-          ap (λ these. map StoreAt (stores_due begun past) ++ map CommitAt these) (no_commits begun (stores past) few) ∙ append-nil (map StoreAt (stores_due begun past)) in (
+      ap (λ these. map StoreAt (stores_due begun past) ++ map CommitAt these) (no_commits begun (stores past) few) ∙ append-nil (map StoreAt (stores_due begun past)) in (
         map StoreAt grows.0 ++ later,
         ap (λ these. map StoreAt these ++ later) more
-        ∙ ap (λ these. these ++ later) (map-append StoreAt (stores_due begun past) grows.0)
-        ∙ append_assoc (map StoreAt (stores_due begun past)) (map StoreAt grows.0) later
-        ∙ ap (λ these. these ++ (map StoreAt grows.0 ++ later)) (sym before),
+            ∙ ap (λ these. these ++ later) (map-append StoreAt (stores_due begun past) grows.0)
+            ∙ append_assoc (map StoreAt (stores_due begun past)) (map StoreAt grows.0) later
+            ∙ ap (λ these. these ++ (map StoreAt grows.0 ++ later)) (sym before),
       )
 
   told-commit : IsLonger (due begun past) (due begun (Told (put_message begun ticket (CommitAt target)) answer ∷ past))
@@ -168,7 +168,7 @@ module _ (begun : Begun) where
   answers-are (Told sent answer ∷ past) run =
       let known = (open-put past sent.ticket sent run.1 run.0).0 in
       let one : length (judge_store sent.device sent.msg answer) + length (judge_commit sent.device sent.msg answer) ≡ 1 =
-          ap (λ (one : Sent). length (judge_store one.device one.msg answer) + length (judge_commit one.device one.msg answer)) known.is ∙ judged-one sent.ticket known.about answer in
+      ap (λ (one : Sent). length (judge_store one.device one.msg answer) + length (judge_commit one.device one.msg answer)) known.is ∙ judged-one sent.ticket known.about answer in
       omega (arith, answers-are past run.1, one, length-append (stores past) (judge_store sent.device sent.msg answer), length-append (commits past) (judge_commit sent.device sent.msg answer))
 
   pub given-within : (past : List Step) → IsRun (IsNext begun) past → length (given past) ≤ length (due begun past)

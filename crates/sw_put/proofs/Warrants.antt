@@ -16,10 +16,11 @@ use Rattle.sw_archive.specs.Put.{put_archive}
 use Rattle.sw_quorum.specs.Answers.{done, missed}
 use Rattle.sw_quorum.specs.Laws.{parts}
 use Rattle.sw_quorum.specs.Places.{apart-from_once, device_once, one_if, part_small, place_right}
+use Rattle.sw_put.specs.Causes.{WasStored}
 use Rattle.sw_put.specs.Put.{Begun, IsBegun, IsNext, due, handoffs, place_of, primaries, put_message, replacements, stores, stores_due, targets_from}
 use Rattle.sw_put.specs.declared.errand.Errand.{Errand}
 use Rattle.sw_put.specs.declared.errand.Errand.TheVariants.{CommitAt, StoreAt}
-use Rattle.sw_put.proofs.Homes.{Fits, IsFit, WasStored, fits, known}
+use Rattle.sw_put.proofs.Homes.{Fits, IsFit, fits, known}
 use Rattle.sw_put.proofs.Transcripts.{IsPut, grew, stores-balance}
 use Rattle.sw_put.proofs.Weights.{handoffs-devices, has_device, has_index, primaries-devices, primary-once, replaced}
 
@@ -79,8 +80,10 @@ module _ (begun : Begun) (learnt : Learnt) where
         devices = devices-apart begun past run valid;
         homes = All-weaker (λ target. IsFit begun target × WasStored begun past target) _ (λ target was. was.0.home) (done (stores past)) all;
         synced = All-weaker (λ target. IsFit begun target × WasStored begun past target) (IsSynced learnt.heard (place_of begun) begun.stamp)
-            (λ target was. (put_archive begun.cluster.policy begun.stamp begun.name begun.object target.index,
-              (reply_known past (put_message begun was.1.0 (StoreAt target)) reply.Synced knows was.1.1).0 (λ same. cc)))
+            (λ target was. (
+              put_archive begun.cluster.policy begun.stamp begun.name begun.object target.index,
+              (reply_known past (put_message begun was.1.0 (StoreAt target)) reply.Synced knows was.1.1).0 (λ same. cc),
+            ))
             (done (stores past)) all;
       }
 

@@ -1,7 +1,7 @@
 -- What is due, answered and open of a put, however it is counted.
 use Rattle.std.proofs.Common.{◌≡◌, inl, inr, ℕ, ◌+◌, ◌≤◌, ◌<◌, ◌==◌, cond, List, [], ◌∷◌, ◌++◌, length, map, take, Option, refl, sym, ap, ◌∙◌, arith}
 use Rattle.std.specs.List.{count_by, sum_by}
-use Rattle.std.proofs.lemmas.Bool.{cases_Bool, eqb-true, ne_eqb}
+use Rattle.std.proofs.lemmas.Bool.{cases_Bool, eqb-false, eqb-true, ne_eqb}
 use Rattle.std.proofs.lemmas.List.Sums.{sum_by-cons, sum_by-take-le}
 use Rattle.sw_message.specs.declared.message.Msg.{Msg}
 use Rattle.sw_message.specs.declared.message.Msg.TheVariants as message
@@ -87,6 +87,20 @@ primary-once from (device ∷ devices) k = elim (cases_Bool (from == k)) [
         arith,
         primary-once (from + 1) devices k,
         ap one_if other,
+        sum_by-cons (has_index k) (record { index = from; device = device }) (targets_from (from + 1) devices),
+      )
+]
+
+-- and one, where the place has it
+pub primary-there : (from : ℕ) (devices : List ℕ) (k : ℕ) → from ≤ k → k < from + length devices → 1 ≤ sum_by (has_index k) (targets_from from devices)
+primary-there from [] k after before = absurd (omega (arith, after, before))
+primary-there from (device ∷ devices) k after before = elim (cases_Bool (from == k)) [
+  | inl is ↦ omega (arith, ap one_if is, sum_by-cons (has_index k) (record { index = from; device = device }) (targets_from (from + 1) devices))
+  | inr other ↦
+      let apart : from < k = omega (arith, after, eqb-false from k other) in
+      omega (
+        arith,
+        primary-there (from + 1) devices k (omega (arith, apart)) (omega (arith, before)),
         sum_by-cons (has_index k) (record { index = from; device = device }) (targets_from (from + 1) devices),
       )
 ]

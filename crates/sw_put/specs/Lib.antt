@@ -1,3 +1,4 @@
+pub mod Causes
 pub mod Inside
 pub mod Plans
 pub mod Put

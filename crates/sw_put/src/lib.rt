@@ -3,12 +3,14 @@
 
 mod end;
 mod errand;
+mod laws;
 mod operation;
 mod planning;
 mod put;
 mod verdict;
 
 pub use crate::end::PutEnd;
+pub use crate::laws::end_law;
 pub use crate::put::PutOp;
 
 #[cfg(test)]

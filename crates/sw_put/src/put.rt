@@ -140,7 +140,8 @@ impl PutOp {
     pub(crate) fn lacks_answers(&self) -> bool
         ensures { (begun : Begun) (past : List Step) → Stands self.now begun past → result ≡ nat_lt (told_count past) (length (due begun past)) }
     {
-        self.stores.answered() < self.store_count() || self.commits.answered() < self.commits_due.len()
+        self.stores.answered() < self.store_count()
+            || self.commits.answered() < self.commits_due.len()
     }
 
     // Takes the answer to a ticket, or none. One that is not open is ignored. It takes no memory.
@@ -160,10 +161,16 @@ impl PutOp {
                 self.stores.take(target, store_verdict(self.stamp, &answer));
                 let missed = self.stores.missed().len();
                 let count = self.primaries.len() + missed.min(self.handoffs.len());
-                plan_commits(&self.stores, count, self.enough_stored, &mut self.commits_due);
+                plan_commits(
+                    &self.stores,
+                    count,
+                    self.enough_stored,
+                    &mut self.commits_due,
+                );
             }
             Errand::CommitAt(target) => {
-                self.commits.take(target, commit_verdict(self.stamp, &answer));
+                self.commits
+                    .take(target, commit_verdict(self.stamp, &answer));
             }
         }
     }

@@ -129,7 +129,11 @@ fn ends_where_fragments_are_missed(rt: HostRuntime) -> Result<(), Fail> {
     use Says::{Committed, Full, Missing, Newer, Nothing, Synced};
     let cases: [(&[(Goes, Says)], Ends); 4] = [
         (
-            &[(Store(0, 0), Newer(8)), (Store(1, 1), Newer(9)), (Store(2, 2), Synced)],
+            &[
+                (Store(0, 0), Newer(8)),
+                (Store(1, 1), Newer(9)),
+                (Store(2, 2), Synced),
+            ],
             Ends::Superseded(9),
         ),
         (
@@ -205,34 +209,65 @@ fn ends_by_the_commits(rt: HostRuntime) -> Result<(), Fail> {
     Ok(())
 }
 
+// What happens to a put: it hands out a message, it waits, or an answer comes for a ticket.
+#[derive(Clone, Copy, Debug)]
+enum Event {
+    Hands(Goes),
+    Waits,
+    Answers(u64, Says),
+}
+
+impl Event {
+    // Whether it happens.
+    fn happens(self, op: &mut PutOp) -> Result<bool, Fail> {
+        match self {
+            Event::Hands(goes) => Ok(match op.next()? {
+                Some(sent) => goes.is(&sent),
+                None => false,
+            }),
+            Event::Waits => Ok(op.next()?.is_none() && !op.ended() && op.end().is_none()),
+            Event::Answers(ticket, says) => {
+                match says.reply()? {
+                    Some(reply) => op.take(ticket, reply),
+                    None => op.give_up(ticket),
+                }
+                Ok(true)
+            }
+        }
+    }
+}
+
 #[test]
 fn waits_for_its_answers(rt: HostRuntime) -> Result<(), Fail> {
+    use Event::{Answers, Hands, Waits};
+    use Goes::{Commit, Store};
+    use Says::{Committed, Missing, Nothing, Synced};
+    let events = [
+        Hands(Store(0, 0)),
+        Hands(Store(1, 1)),
+        Hands(Store(2, 2)),
+        Waits,
+        Answers(7, Synced),
+        Answers(1, Nothing),
+        Answers(1, Synced),
+        Answers(0, Synced),
+        Hands(Store(1, 3)),
+        Answers(3, Synced),
+        Waits,
+        Answers(2, Synced),
+        Hands(Commit(0, 0)),
+        Hands(Commit(1, 3)),
+        Hands(Commit(2, 2)),
+        Answers(6, Committed),
+        Answers(6, Committed),
+        Waits,
+        Answers(5, Missing),
+        Answers(4, Committed),
+    ];
     let mut op = begun(rt.alloc())?;
-    for device in 0..3u16 {
-        let sent = op.next()?.ok_or("no message")?;
-        assert_eq!(rt; sent.ticket, u64::from(device));
-        assert!(rt; Goes::Store(u32::from(device), device).is(&sent));
+    for event in events {
+        assert!(rt; event.happens(&mut op)?);
     }
-    assert!(rt; op.next()?.is_none());
-    op.take(7, Reply::Synced);
-    op.give_up(1);
-    op.take(1, Reply::Synced);
-    op.take(0, Reply::Synced);
-    let sent = op.next()?.ok_or("no message")?;
-    assert!(rt; Goes::Store(1, 3).is(&sent));
-    op.take(sent.ticket, Reply::Synced);
-    assert!(rt; op.next()?.is_none());
-    op.take(2, Reply::Synced);
-    for (index, device) in [(0, 0), (1, 3), (2, 2)] {
-        let sent = op.next()?.ok_or("no message")?;
-        assert!(rt; Goes::Commit(index, device).is(&sent));
-    }
-    op.take(6, Reply::Committed);
-    op.take(6, Reply::Committed);
-    assert!(rt; op.next()?.is_none());
-    assert!(rt; op.end().is_none());
-    op.take(5, Reply::Missing);
-    op.take(4, Reply::Committed);
     assert!(rt; op.next()?.is_none());
     assert!(rt; Ends::Created(2).is(op.end()));
     Ok(())

@@ -1,12 +1,13 @@
 -- What every transcript keeps of a machine that hands out what is due.
-use Rattle.std.specs.Prelude.{◌≡◌, ℕ, zero, suc, ◌+◌, ◌≤◌, ◌<◌, Bool, true, false, if◌then◌else◌, nat_lt, List, [], ◌∷◌, ◌++◌, length, slice_get, take, drop, Option, Some, None}
+use Rattle.std.specs.Prelude.{◌≡◌, ℕ, zero, suc, ◌+◌, ◌≤◌, ◌<◌, Bool, true, false, if◌then◌else◌, nat_lt, List, [], ◌∷◌, ◌++◌, length, slice_get, take, drop, Contains, Option, Some, None}
 use Rattle.std.specs.List.{All, sum_by}
-use Rattle.std.proofs.Common.{append-nil, ap, arith, get_or, refl, sym, subst, ◌∙◌}
-use Rattle.std.proofs.lemmas.Bool.{le-ltb, lt-ltb, ltb-false}
+use Rattle.std.proofs.Common.{ap, arith, get_or, inl, inr, refl, sym, subst, ◌∙◌}
+use Rattle.std.proofs.lemmas.Bool.{cases_lt, le-ltb, lt-ltb, ltb-false}
 use Rattle.std.proofs.lemmas.List.{length-append, take-append-le, take_more}
 use Rattle.std.proofs.lemmas.List.Elements.{All-weaker}
 use Rattle.std.proofs.lemmas.List.Sums.{sum_by-cons, sum_by-take-drop, sum_by_push}
-use Rattle.std.proofs.lemmas.Option.{get_or_from_slice_get, none-some, slice_get_within}
+use Rattle.std.proofs.lemmas.Option.{get_or_from_slice_get, none-some, same_Some, slice_get-get_or, slice_get_within}
+use Rattle.sw_ring.proofs.Among.{Contains-cons}
 use Rattle.sw_message.specs.Transcript.{Gave, Hand, IsRun, Next, Over, Step, Told, Wait, given, is_waiting, open_at, opens}
 use Rattle.sw_message.specs.declared.sent.Sent.{Sent}
 use Rattle.sw_quorum.specs.Dues.{Grew, IsDue, IsLonger, due_next, due_or}
@@ -78,8 +79,8 @@ module _ {D : Type 0} (message : ℕ → D → Sent) (own : (ticket : ℕ) (abou
     opened past run grew =
         All-weaker (λ sent. Grew due past → IsDue message (due past) sent) (IsDue message (due past)) (λ sent known. known grew) (opens past)
         (opens-keep IsNext (λ past sent. Grew due past → IsDue message (due past) sent)
-          (λ past sent is grew. stays (due past) (due (Gave sent ∷ past)) sent grew.0 (handed (due past) past sent is).1)
-          (λ past step sent known grew. stays (due past) (due (step ∷ past)) sent grew.0 (known grew.1)) past run)
+        (λ past sent is grew. stays (due past) (due (Gave sent ∷ past)) sent grew.0 (handed (due past) past sent is).1)
+        (λ past step sent known grew. stays (due past) (due (step ∷ past)) sent grew.0 (known grew.1)) past run)
 
     pub open-due : (past : List Step) (ticket : ℕ) (sent : Sent) → IsRun IsNext past → Grew due past → open_at ticket past ≡ Some sent → IsDue message (due past) sent × (sent.ticket ≡ ticket)
     open-due past ticket sent run grew is = found (IsDue message (due past)) ticket (opens past) sent is (opened past run grew)
@@ -108,6 +109,29 @@ module _ {D : Type 0} (message : ℕ → D → Sent) (own : (ticket : ℕ) (abou
         let is = handed (due past) past sent run.0 in
         omega (arith, is.0, slice_get_within (due past) sent.ticket is.1.about is.1.found, longer-length (due past) (due (Gave sent ∷ past)) grew.0)
     given-within (Told sent answer ∷ past) run grew = omega (arith, given-within past run.1 grew.1, longer-length (due past) (due (Told sent answer ∷ past)) grew.0)
+
+    earlier-found : (before after : List D) (i : ℕ) (x : D) → IsLonger before after → i < length before → slice_get after i ≡ Some x → slice_get before i ≡ Some x
+    earlier-found before after i x longer within at =
+        let here : slice_get before i ≡ Some (get_or before i x) = slice_get-get_or before i x within in
+        here ∙ sym (stays-found before after i (get_or before i x) longer here) ∙ at
+
+    -- what was due at a ticket was handed out, once so many messages were
+    pub handed-out : (past : List Step) (ticket : ℕ) (about : D) → IsRun IsNext past → Grew due past → ticket < length (given past) → slice_get (due past) ticket ≡ Some about
+        → Contains (given past) (message ticket about)
+    handed-out [] ticket about run grew within at = absurd (omega (arith, within))
+    handed-out (Gave sent ∷ past) ticket about run grew within at = elim (cases_lt ticket (length (given past))) [
+      | inl before ↦
+          Contains-cons (message ticket about) sent (given past)
+          (handed-out past ticket about run.1 grew.1 before (earlier-found (due past) (due (Gave sent ∷ past)) ticket about grew.0 (omega (arith, before, given-within past run.1 grew.1)) at))
+      | inr from ↦
+          let is = handed (due past) past sent run.0 in
+          let same : sent.ticket ≡ ticket = omega (arith, is.0, from, within) in
+          let after = stays-found (due past) (due (Gave sent ∷ past)) sent.ticket is.1.about grew.0 is.1.found in
+          let one : is.1.about ≡ about = same_Some is.1.about about (sym after ∙ ap (slice_get (due (Gave sent ∷ past))) same ∙ at) in
+          (zero, omega arith, is.1.is ∙ ap (message sent.ticket) one ∙ ap (λ n. message n about) same)
+    ]
+    handed-out (Told sent answer ∷ past) ticket about run grew within at =
+        handed-out past ticket about run.1 grew.1 within (earlier-found (due past) (due (Told sent answer ∷ past)) ticket about grew.0 (omega (arith, within, given-within past run.1 grew.1)) at)
 
     -- where it is over, no message is open
     pub over-closed : (past : List Step) → IsRun IsNext past → Grew due past → due_next message (due past) past ≡ Over → opens past ≡ []
@@ -139,8 +163,13 @@ module _ {D : Type 0} (message : ℕ → D → Sent) (own : (ticket : ℕ) (abou
           let weight : f sent ≡ h is.1.about = ap f is.1.is ∙ same sent.ticket is.1.about in
           let more : n + 1 ≡ length (given (Gave sent ∷ past)) = omega arith in
           sum_by-cons f sent (given past)
-          ∙ omega (arith, weight, given-due past run.1 grew.1, taken-more (due past) n is.1.about at,
-              taken-longer (due past) (due (Gave sent ∷ past)) (n + 1) grew.0 (omega (arith, slice_get_within (due past) n is.1.about at)))
+          ∙ omega (
+            arith,
+            weight,
+            given-due past run.1 grew.1,
+            taken-more (due past) n is.1.about at,
+            taken-longer (due past) (due (Gave sent ∷ past)) (n + 1) grew.0 (omega (arith, slice_get_within (due past) n is.1.about at)),
+          )
           ∙ ap (λ k. sum_by h (take k (due (Gave sent ∷ past)))) more
       given-due (Told sent answer ∷ past) run grew =
           given-due past run.1 grew.1 ∙ sym (taken-longer (due past) (due (Told sent answer ∷ past)) (length (given past)) grew.0 (given-within past run.1 grew.1))

@@ -1,10 +1,10 @@
 -- What one answer more changes in what answers say.
-use Rattle.std.specs.Prelude.{◌≡◌, ℕ, ◌+◌, ◌≤◌, List, [], ◌∷◌, ◌++◌, flat_map, length, Option, Some}
+use Rattle.std.specs.Prelude.{◌≡◌, ℕ, ◌+◌, ◌≤◌, List, [], ◌∷◌, ◌++◌, flat_map, length, Contains, Option, Some}
 use Rattle.std.specs.List.{All, sum_by}
-use Rattle.std.proofs.Common.{append-nil, ap, arith, refl, ◌∙◌}
+use Rattle.std.proofs.Common.{append-nil, ap, arith, refl, subst, sym, ◌∙◌}
 use Rattle.std.proofs.lemmas.Grind.{flat_map-append}
-use Rattle.std.proofs.lemmas.List.{length-append}
-use Rattle.std.proofs.lemmas.List.Elements.{All-append, All-cons, All-nil, All-same}
+use Rattle.std.proofs.lemmas.List.{length-append, nil_from_length}
+use Rattle.std.proofs.lemmas.List.Elements.{All-append, All-cons, All-nil, All-same, Contains-append_left}
 use Rattle.std.proofs.lemmas.List.Sums.{sum_by-append, sum_by-cons}
 use Rattle.sw_hashdir.specs.declared.floor.Floor.{Floor}
 use Rattle.sw_message.specs.FloorLaws.{highest-snoc}
@@ -126,6 +126,11 @@ module _ {T : Type 0} (w : T → ℕ) where
 
 -- ---- what holds of each
 
+floors-of : (P : Floor → Type 0) (verdict : Verdict) → ((floor : Floor) → verdict ≡ Forbidden floor → P floor) → All P (floors_from verdict)
+floors-of P Done holds = All-nil P
+floors-of P (Forbidden floor) holds = All-cons P floor [] (holds floor refl) (All-nil P)
+floors-of P (Missed miss) holds = All-nil P
+
 module _ {T : Type 0} where
   done-of : (P : T → Type 0) (about : T) (verdict : Verdict) → (verdict ≡ Done → P about) → All P (done_in about verdict)
   done-of P about Done holds = All-cons P about [] (holds refl) (All-nil P)
@@ -143,3 +148,33 @@ module _ {T : Type 0} where
   pub missed-each : (P : T × Miss → Type 0) (answers : List (Judged T)) (about : T) (verdict : Verdict) → ((miss : Miss) → verdict ≡ Missed miss → P (about, miss)) → All P (missed answers)
       → All P (missed (answers ++ judged about verdict ∷ []))
   missed-each P answers about verdict holds all = All-same P _ _ (missed-more answers about verdict) (All-append P (missed answers) (missed_in about verdict) all (missed-of P about verdict holds))
+
+  pub floors-each : (P : Floor → Type 0) (answers : List (Judged T)) (about : T) (verdict : Verdict) → ((floor : Floor) → verdict ≡ Forbidden floor → P floor) → All P (floors answers)
+      → All P (floors (answers ++ judged about verdict ∷ []))
+  floors-each P answers about verdict holds all = All-same P _ _ (floors-more answers about verdict) (All-append P (floors answers) (floors_from verdict) all (floors-of P verdict holds))
+
+  -- a floor stays among those that were told of
+  pub floor-stays : (answers more : List (Judged T)) (floor : Floor) → Contains (floors answers) floor → Contains (floors (answers ++ more)) floor
+  floor-stays answers more floor has =
+      subst (λ these. Contains these floor) (sym (flat_map-append (λ (one : Judged T). floors_from one.verdict) answers more))
+      (Contains-append_left (floors answers) (floors more) floor has)
+
+  one_forbidden : (about : T) (verdict : Verdict) → length (forbidden_in about verdict) ≡ length (floors_from verdict)
+  one_forbidden about Done = refl
+  one_forbidden about (Forbidden floor) = refl
+  one_forbidden about (Missed miss) = refl
+
+  length-forbidden : (answers : List (Judged T)) → length (forbidden answers) ≡ length (floors answers)
+  length-forbidden [] = refl
+  length-forbidden (one ∷ others) =
+      omega (
+        arith,
+        length-forbidden others,
+        one_forbidden one.about one.verdict,
+        length-append (forbidden_in one.about one.verdict) (forbidden others),
+        length-append (floors_from one.verdict) (floors others),
+      )
+
+  -- without floors nothing is forbidden
+  pub none-forbidden : (answers : List (Judged T)) → floors answers ≡ [] → forbidden answers ≡ []
+  none-forbidden answers none = nil_from_length (forbidden answers) (length-forbidden answers ∙ ap length none)

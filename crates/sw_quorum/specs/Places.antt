@@ -1,5 +1,5 @@
 -- The place of a name and its devices, in a cluster that keeps the rules.
-use Rattle.std.specs.Prelude.{◌≡◌, ◌≢◌, ℕ, zero, suc, ◌+◌, ◌^◌, ◌<◌, ◌≤◌, ◌==◌, Bool, true, false, not, cond, List, [], ◌∷◌, length}
+use Rattle.std.specs.Prelude.{◌≡◌, ◌≢◌, ℕ, zero, suc, ◌+◌, ◌^◌, ◌<◌, ◌≤◌, ◌==◌, Bool, true, false, not, cond, List, [], ◌∷◌, length, Contains}
 use Rattle.std.specs.List.{All, AllPairs, count_by, filter, slice_index}
 use Rattle.std.proofs.Common.{ap, arith, inl, inr, get_or, refl, sym, ◌∙◌}
 use Rattle.std.proofs.lemmas.Bool.{cases_Bool, cond-false, eq-eqb, eqb-true, ne_eqb, not-true, true≢false}
@@ -16,7 +16,7 @@ use Rattle.sw_hashpath.proofs.Digests.{IsHash-md5}
 use Rattle.sw_ring.specs.Cluster.{ClusterModel, KeepsRules, column_of, handoffs_of, ids_of, place_of_name}
 use Rattle.sw_ring.specs.Ring.{is_among}
 use Rattle.sw_ring.specs.declared.device.Device.{Device}
-use Rattle.sw_ring.proofs.Among.{among-from_Contains}
+use Rattle.sw_ring.proofs.Among.{Contains-cons, among-from_Contains}
 use Rattle.sw_message.specs.Message.{IsMember, is_primary}
 
 -- ---- what is in a list at most once
@@ -42,6 +42,16 @@ apart-from_once key (x ∷ xs) once =
     AllPairs-cons (λ a b. key a ≢ key b) x xs
     (none-is key (key x) xs (omega (arith, once (key x), here, sum_by-cons (λ y. cond (key y == key x) 1 0) x xs)))
     (apart-from_once key xs (λ k. omega (arith, once k, sum_by-cons (λ y. cond (key y == k) 1 0) x xs)))
+
+-- where some are there, one is
+pub some-counted : {A : Type 0} (key : A → ℕ) (k : ℕ) (xs : List A) → 0 < count_by (λ x. key x == k) xs → (x : A) × Contains xs x × (key x ≡ k)
+some-counted key k [] some = absurd (omega (arith, some))
+some-counted key k (x ∷ xs) some = elim (cases_Bool (key x == k)) [
+  | inl is ↦ (x, (zero, omega arith, refl), eqb-true (key x) k is)
+  | inr other ↦
+      let later = some-counted key k xs (omega (arith, some, ap one_if other, sum_by-cons (λ x. cond (key x == k) 1 0) x xs)) in
+      (later.0, Contains-cons later.0 x xs later.1, later.2)
+]
 
 none-counted : (k : ℕ) (xs : List ℕ) → All (λ x. x ≢ k) xs → count_by (λ x. x == k) xs ≡ 0
 none-counted k [] all = refl
@@ -111,6 +121,9 @@ module _ (cluster : ClusterModel) (part : ℕ) where
         All-weaker (λ id. is_among (column_of cluster part) id ≡ true) (λ id. id ≢ device) (λ id is same. true≢false (sym is ∙ ap (is_among (column_of cluster part)) same ∙ none)) (column_of cluster part)
         (All-weaker _ (λ id. is_among (column_of cluster part) id ≡ true) (among-from_Contains (column_of cluster part)) (column_of cluster part) (All-contains_itself (column_of cluster part))) in
         let ids_apart : AllPairs (λ a b. a ≢ b) (ids_of cluster) = λ i j d less within same. absurd (omega (arith, same, AllPairs-from_increasing (ids_of cluster) rules.ascending i j d less within)) in
-        omega (arith, none-counted device (column_of cluster part) others,
-          once-apart device (handoffs_of cluster part) (AllPairs-filter (λ a b. a ≢ b) (λ id. not (is_among (column_of cluster part) id)) (ids_of cluster) ids_apart))
+        omega (
+          arith,
+          none-counted device (column_of cluster part) others,
+          once-apart device (handoffs_of cluster part) (AllPairs-filter (λ a b. a ≢ b) (λ id. not (is_among (column_of cluster part) id)) (ids_of cluster) ids_apart),
+        )
   ]

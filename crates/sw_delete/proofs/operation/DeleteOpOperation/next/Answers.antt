@@ -57,6 +57,6 @@ invariant_of-self c =
     let past = stood.1 in
     let stands : Stands c.args.self.now begun past = subst (λ (delete : DeleteModel). Stands delete begun past) c.self.view_is stood.2 in
     let over = is_over (delete_seen c.self.inside) begun past stood.2
-        (ap (slice_get (due begun past)) (sym (c.count-count.ensures.given past stood.2.tickets_are)) ∙ sym (c.due.ensures begun past stands) ∙ c.in_default.is)
-        (omega (arith, c.if-answered-due_count.false, c.answered.ensures, c.due_count.ensures begun past stands)) in
+    (ap (slice_get (due begun past)) (sym (c.count-count.ensures.given past stood.2.tickets_are)) ∙ sym (c.due.ensures begun past stands) ∙ c.in_default.is)
+    (omega (arith, c.if-answered-due_count.false, c.answered.ensures, c.due_count.ensures begun past stands)) in
     ((begun, past, stands_ended (delete_seen c.self.inside) begun past stood.2 c.in_ok-ending.field-0 (c.in_ok-ending.ensures begun past stands over)), c.self.invariant.1)

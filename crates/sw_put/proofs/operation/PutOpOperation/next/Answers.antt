@@ -29,7 +29,7 @@ pub returns-then-lacks_answers-clause-hands : goal.returns-then-lacks_answers-cl
 returns-then-lacks_answers-clause-hands c = λ begun past stands.
     let stood = by_fields c.self.inside c.args.self.now begun past c.self.view_is stands in
     let none : slice_get (due begun past) (length (given past)) ≡ None =
-        ap (slice_get (due begun past)) (sym (c.count-count.ensures.given past stood.tickets_are)) ∙ sym (c.due.ensures begun past stands) ∙ c.in_default.is in
+    ap (slice_get (due begun past)) (sym (c.count-count.ensures.given past stood.tickets_are)) ∙ sym (c.due.ensures begun past stands) ∙ c.in_default.is in
     let few : told_count past < length (due begun past) = ltb-true _ _ (sym (c.lacks_answers.ensures begun past stands) ∙ c.if-lacks_answers.true) in
     inr (
       laws.waits (put_message begun) (due begun past) past none few,
@@ -60,6 +60,6 @@ invariant_of-self c =
     let past = stood.1 in
     let stands : Stands c.args.self.now begun past = subst (λ (put : PutModel). Stands put begun past) c.self.view_is stood.2 in
     let over = laws.is_over (put_message begun) (due begun past) past
-        (ap (slice_get (due begun past)) (sym (c.count-count.ensures.given past stood.2.tickets_are)) ∙ sym (c.due.ensures begun past stands) ∙ c.in_default.is)
-        (ltb-false _ _ (sym (c.lacks_answers.ensures begun past stands) ∙ c.if-lacks_answers.false)) in
+    (ap (slice_get (due begun past)) (sym (c.count-count.ensures.given past stood.2.tickets_are)) ∙ sym (c.due.ensures begun past stands) ∙ c.in_default.is)
+    (ltb-false _ _ (sym (c.lacks_answers.ensures begun past stands) ∙ c.if-lacks_answers.false)) in
     ((begun, past, stands_ended (put_seen c.self.inside) begun past stood.2 c.in_ok-ending.field-0 (c.in_ok-ending.ensures begun past stands over)), c.self.invariant.1, c.self.invariant.2, c.self.invariant.3)

@@ -143,9 +143,9 @@ invariant_of-self-in-CommitAt c =
         stood.0,
         told stood.1 c.args.ticket c.args.answer,
         stands_committed (put_seen c.self.inside) stood.0 stood.1 stood.2 c.args.ticket c.in-CommitAt.target sent.0 sent.1 (sym (c.due.ensures stood.0 stood.1 stands) ∙ c.in-Some.is ∙ ap Some c.in-CommitAt.is)
-          _ _ c.args.answer
-          (c.if-not-close.ensures.goes_on stood.1 c.args.answer stood.2.tickets_are)
-          (λ answers is. c.take-in-CommitAt.ensures.taken answers is ∙ ap (λ (verdict : Verdict). counts_of (answers ++ record { about = c.in-CommitAt.target; verdict = verdict } ∷ [])) c.commit_verdict.ensures),
+            _ _ c.args.answer
+            (c.if-not-close.ensures.goes_on stood.1 c.args.answer stood.2.tickets_are)
+            (λ answers is. c.take-in-CommitAt.ensures.taken answers is ∙ ap (λ (verdict : Verdict). counts_of (answers ++ record { about = c.in-CommitAt.target; verdict = verdict } ∷ [])) c.commit_verdict.ensures),
       ),
       c.self.invariant.1,
       omega (arith, c.take-in-CommitAt.ensures.room, c.self.invariant.2),

@@ -20,8 +20,7 @@ pub invariant_of-result : goal.invariant_of-result
 invariant_of-result c =
     let begun : Begun = record { cluster = c.args.cluster.now; stamp = c.args.stamp; name = c.args.name.now; object = c.args.object.now } in
     let valid : IsBegun begun = record { rules = c.part_power.ensures.rules } in
-    let part = ap (λ (place : PlaceModel). place.part) c.in_ok-place.ensures.place in
-    (
+    let part = ap (λ (place : PlaceModel). place.part) c.in_ok-place.ensures.place in (
       (
         begun,
         [],

@@ -30,7 +30,7 @@ handed c begun past stands =
     let stood = by_fields c.self.inside c.args.self.now begun past c.self.view_is stands in
     let number : c.in_ok-ticket.ticket ≡ length (given past) = c.in_ok-ticket.ensures.ticket ∙ stood.tickets_are.count in
     let at : slice_get (due begun past) (length (given past)) ≡ Some c.args.errand =
-        ap (slice_get (due begun past)) (sym stood.tickets_are.count) ∙ ap (λ these. slice_get these (length c.self.inside.tickets)) (due_is (seen c) begun past stood) ∙ found c in
+    ap (slice_get (due begun past)) (sym stood.tickets_are.count) ∙ ap (λ these. slice_get these (length c.self.inside.tickets)) (due_is (seen c) begun past stood) ∙ found c in
     laws.hands (put_message begun) (due begun past) past c.args.errand at
     ∙ ap Hand (c.in_ok-msg.ensures begun past (length (given past)) stands at (length (given past)))
     ∙ ap (λ n. Hand (record { ticket = n; device = device_in c.args.errand; msg = c.in_ok-msg.msg })) (sym number)

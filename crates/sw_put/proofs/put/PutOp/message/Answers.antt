@@ -21,5 +21,5 @@ pub returns-in-StoreAt : goal.returns-in-StoreAt
 returns-in-StoreAt c = λ begun past number stands is.
     let fit = fits begun stands.valid past number _ stands.run (is ∙ ap Some c.in-StoreAt.is) in
     IfOk-weaker c.fragment.result _ _ (λ msg same ticket. subst (λ (errand : Errand). put_message begun ticket errand ≡ record { ticket = ticket; device = device_in errand; msg = msg }) (sym c.in-StoreAt.is)
-      (fragment_is c.args.self.now begun past stands c.in-StoreAt.target msg fit.below same ticket))
+    (fragment_is c.args.self.now begun past stands c.in-StoreAt.target msg fit.below same ticket))
     c.fragment.ensures

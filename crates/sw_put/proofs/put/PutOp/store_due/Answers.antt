@@ -28,8 +28,8 @@ overflow_cast-index c =
 pub returns-in-Some : goal.returns-in-Some
 returns-in-Some c = λ begun past stands.
     sym (
-      ap (λ these. slice_get these c.args.number) (stores_due_is _ begun past stands ∙ ap stores_due_seen (sym c.self.view_is))
-      ∙ slice_get-front (targets_from 0 c.self.inside.primaries.items) _ c.args.number _ (primary-at 0 c.self.inside.primaries.items c.args.number c.args.number c.in-Some.device (omega arith) (found c))
+    ap (λ these. slice_get these c.args.number) (stores_due_is _ begun past stands ∙ ap stores_due_seen (sym c.self.view_is))
+    ∙ slice_get-front (targets_from 0 c.self.inside.primaries.items) _ c.args.number _ (primary-at 0 c.self.inside.primaries.items c.args.number c.args.number c.in-Some.device (omega arith) (found c))
     )
 
 pub returns : goal.returns
@@ -38,15 +38,15 @@ returns c = λ begun past stands.
     let misses = c.self.inside.stores.counts.missed in
     let rest = c.self.inside.handoffs.items in
     let none : slice_get front c.args.number ≡ None =
-        ap (λ these. slice_get these c.args.number) (sym c.deref.ensures.value) ∙ sym (looked-up _ _ c.get.result c.get.ensures.lookup.0 c.get.ensures.lookup.1) ∙ sym c.copied.ensures ∙ c.in_default.is in
+    ap (λ these. slice_get these c.args.number) (sym c.deref.ensures.value) ∙ sym (looked-up _ _ c.get.result c.get.ensures.lookup.0 c.get.ensures.lookup.1) ∙ sym c.copied.ensures ∙ c.in_default.is in
     let from : length (targets_from 0 front) ≤ c.args.number = omega (arith, slice_get_none front c.args.number none, length-targets_from 0 front) in
     let number : c.args.number - length (targets_from 0 front) ≡ c.args.number - c.len.result = omega (arith, c.len.ensures, c.self.inside.primaries.ok, length-targets_from 0 front) in
     let miss = c.copied-missed.ensures ∙ looked-up _ _ c.get-2.result c.get-2.ensures.lookup.0 c.get-2.ensures.lookup.1 ∙ ap (λ these. slice_get these (c.args.number - c.len.result)) c.missed.ensures in
     let handoff = c.copied-handoff.ensures ∙ looked-up _ _ c.get-3.result c.get-3.ensures.lookup.0 c.get-3.ensures.lookup.1 ∙ ap (λ these. slice_get these (c.args.number - c.len.result)) c.deref-2.ensures.value in
     c.replacement.ensures ∙ ap (λ m. replacement m c.copied-handoff.result) miss ∙ ap (replacement (slice_get misses (c.args.number - c.len.result))) handoff
     ∙ sym (
-      ap (λ these. slice_get these c.args.number) (stores_due_is _ begun past stands ∙ ap stores_due_seen (sym c.self.view_is))
-      ∙ slice_get-behind (targets_from 0 front) (replacements misses rest) c.args.number from
-      ∙ ap (slice_get (replacements misses rest)) number
-      ∙ replacement-at misses rest (c.args.number - c.len.result)
+    ap (λ these. slice_get these c.args.number) (stores_due_is _ begun past stands ∙ ap stores_due_seen (sym c.self.view_is))
+    ∙ slice_get-behind (targets_from 0 front) (replacements misses rest) c.args.number from
+    ∙ ap (slice_get (replacements misses rest)) number
+    ∙ replacement-at misses rest (c.args.number - c.len.result)
     )
