@@ -1,0 +1,5 @@
+mod Cuts
+mod Escapes
+mod Numbers
+mod ShortWords
+mod WordCounts
