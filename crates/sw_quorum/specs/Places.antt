@@ -1,8 +1,8 @@
 -- The place of a name and its devices, in a cluster that keeps the rules.
 use Rattle.std.specs.Prelude.{◌≡◌, ◌≢◌, ℕ, zero, suc, ◌+◌, ◌^◌, ◌<◌, ◌≤◌, ◌==◌, Bool, true, false, not, cond, List, [], ◌∷◌, length, Contains}
-use Rattle.std.specs.List.{All, AllPairs, count_by, filter, slice_index}
-use Rattle.std.proofs.Common.{ap, arith, inl, inr, get_or, refl, sym, ◌∙◌}
-use Rattle.std.proofs.lemmas.Bool.{cases_Bool, cond-false, eq-eqb, eqb-true, ne_eqb, not-true, true≢false}
+use Rattle.std.specs.List.{All, AllPairs, count_by, slice_index}
+use Rattle.std.proofs.Common.{ap, arith, inl, inr, refl, sym, ◌∙◌}
+use Rattle.std.proofs.lemmas.Bool.{cases_Bool, eq-eqb, eqb-true, ne_eqb, not-true, true≢false}
 use Rattle.std.proofs.lemmas.List.{length-map}
 use Rattle.std.proofs.lemmas.List.Elements.{All-cons, All-contains_itself, All-filter, All-head, All-nil, All-tail, All-weaker, filter_passes}
 use Rattle.std.proofs.lemmas.List.Filters.{length-filter_both}
@@ -17,7 +17,7 @@ use Rattle.sw_ring.specs.Cluster.{ClusterModel, KeepsRules, column_of, handoffs_
 use Rattle.sw_ring.specs.Ring.{is_among}
 use Rattle.sw_ring.specs.declared.device.Device.{Device}
 use Rattle.sw_ring.proofs.Among.{Contains-cons, among-from_Contains}
-use Rattle.sw_message.specs.Message.{IsMember, is_primary}
+use Rattle.sw_message.specs.Message.{IsMember}
 
 -- ---- what is in a list at most once
 
