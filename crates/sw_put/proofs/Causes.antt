@@ -1,6 +1,6 @@
 -- What every transcript of a put tells of its causes.
-use Rattle.std.proofs.Common.{◌≡◌, ◌⊎◌, inl, inr, ℕ, zero, suc, ◌<◌, ◌==◌, Bool, true, false, ◌&&◌, eqb, ltb, List, [], ◌∷◌, ◌++◌, append-nil, length, Contains, Option, Some, None, refl, sym, ap, subst, ◌∙◌, arith}
-use Rattle.std.specs.List.{All, slice_get}
+use Rattle.std.proofs.Common.{◌≡◌, ◌⊎◌, inl, inr, ℕ, zero, suc, Bool, true, false, ◌&&◌, eqb, ltb, List, [], ◌∷◌, ◌++◌, append-nil, Contains, Option, Some, None, refl, sym, ap, subst, ◌∙◌, arith}
+use Rattle.std.specs.List.{All}
 use Rattle.std.proofs.lemmas.Bool.{and_from, and_parts, eq-eqb, eqb-true, lt-ltb, ltb-true, or_cases, or_left, or_right}
 use Rattle.std.proofs.lemmas.List.Elements.{All-nil, All-same, All-weaker, Contains-push}
 use Rattle.sw_hashdir.specs.Directory.{StandsAbove}
@@ -17,7 +17,6 @@ use Rattle.sw_message.specs.declared.sent.Sent.{Sent}
 use Rattle.sw_message.specs.declared.target.Target.{Target}
 use Rattle.sw_quorum.specs.Answers.{done, floors, floors_from, forbidden_if, missed}
 use Rattle.sw_quorum.specs.Laws.{done-each, floor-stays, floors-each, floors-more, missed-each}
-use Rattle.sw_quorum.specs.declared.verdict.Verdict.{Verdict}
 use Rattle.sw_quorum.specs.declared.verdict.Verdict.TheVariants.{Done, Forbidden}
 use Rattle.sw_put.specs.Causes.{WasCommitted, WasMissed, WasStored, WasTold}
 use Rattle.sw_put.specs.Put.{Begun, IsBegun, IsNext, commit_verdict, commits, judge_commit, judge_store, put_message, store_verdict, stores}

@@ -1,21 +1,19 @@
 -- A put that handed out a message, took an answer, or ended.
-use Rattle.std.proofs.Common.{◌≡◌, ℕ, ◌+◌, ◌*◌, ◌≤◌, ◌<◌, ◌==◌, Bool, List, [], ◌∷◌, ◌++◌, append-nil, get_or, length, map, Option, Some, None, refl, sym, ap, subst, ◌∙◌, arith}
-use Rattle.std.specs.List.{find, range_with_len, slice_get, sum_by}
+use Rattle.std.proofs.Common.{◌≡◌, ℕ, ◌+◌, ◌*◌, ◌≤◌, ◌<◌, ◌==◌, Bool, List, [], ◌∷◌, ◌++◌, append-nil, get_or, length, map, Option, Some, None, sym, ap, subst, ◌∙◌, arith}
+use Rattle.std.specs.List.{find, slice_get}
 use Rattle.std.proofs.lemmas.List.FromFn.{get_or-map-range_with_len, length-map-range_with_len}
-use Rattle.std.proofs.lemmas.Option.{none-some, same_Some, slice_get_within}
+use Rattle.std.proofs.lemmas.Option.{none-some, same_Some}
 use Rattle.sw_archive.specs.Put.{put_archive}
 use Rattle.sw_message.specs.Tickets.{AreTickets}
-use Rattle.sw_message.specs.Transcript.{Gave, Hand, Over, Step, Told, Wait, given, is_waiting, open_at, opens, told}
+use Rattle.sw_message.specs.Transcript.{Gave, Hand, Step, Told, open_at, told}
 use Rattle.sw_message.specs.declared.message.Msg.{Msg}
 use Rattle.sw_message.specs.declared.message.Msg.TheVariants.{PutFrag}
 use Rattle.sw_message.specs.declared.reply.Reply.{Reply}
 use Rattle.sw_message.specs.declared.sent.Sent.{Sent}
 use Rattle.sw_message.specs.declared.target.Target.{Target}
 use Rattle.sw_quorum.specs.Answers.{Judged, missed}
-use Rattle.sw_quorum.specs.DueLaws as laws
-use Rattle.sw_quorum.specs.Laws.{counts-within}
 use Rattle.sw_quorum.specs.Tally.{Counts, counts_of}
-use Rattle.sw_quorum.specs.Transcripts.{run-told, told-ignored, told-open, told_count}
+use Rattle.sw_quorum.specs.Transcripts.{run-told, told-ignored, told-open}
 use Rattle.sw_put.specs.Inside.{put_seen}
 use Rattle.sw_put.specs.Plans.{planned}
 use Rattle.sw_put.specs.Put.{Begun, IsNext, commit_verdict, commits, commits_due, due, handoffs, put_end, put_message, put_next, replacements, store_verdict, stores, stores_due, targets_from}
@@ -25,7 +23,7 @@ use Rattle.sw_put.specs.declared.errand.Errand.{Errand}
 use Rattle.sw_put.specs.declared.errand.Errand.TheVariants.{CommitAt, StoreAt}
 use Rattle.sw_put.specs.declared.put.PutOp.TheInside.{Inside}
 use Rattle.sw_put.proofs.Dues.{commits_due_by, no_commits, stores_due-few, stores_due_by}
-use Rattle.sw_put.proofs.Transcripts.{commits_due-few, ended, fewer-committed, fewer-stored, grew, length-due, open-put, over-closed, own, stores-within}
+use Rattle.sw_put.proofs.Transcripts.{commits_due-few, ended, fewer-committed, fewer-stored, grew, length-due, open-put, over-closed}
 
 -- what holds of a put, by its fields
 pub by_fields : (inside : Inside) (put : PutModel) (begun : Begun) (past : List Step) → put_seen inside ≡ put → Stands put begun past → Stands (put_seen inside) begun past

@@ -1,13 +1,12 @@
 -- Why a put ended as it did.
-use Rattle.std.proofs.Common.{◌≡◌, ◌≢◌, ◌⊎◌, inl, inr, ⊎_elim, ℕ, zero, suc, ◌+◌, ◌-◌, ◌≤◌, ◌<◌, ◌==◌, cond, Bool, true, false, not, ◌&&◌, ◌||◌, if◌then◌else◌, List, [], ◌∷◌, ◌++◌, drop, get_or, length, map, min, Contains, Option, Some, None, is_some, refl, sym, ap, subst, ◌∙◌, arith}
+use Rattle.std.proofs.Common.{◌≡◌, ◌⊎◌, inl, inr, ⊎_elim, ℕ, ◌+◌, ◌≤◌, ◌<◌, Bool, true, false, not, ◌&&◌, ◌||◌, if◌then◌else◌, List, [], drop, get_or, length, Contains, Option, Some, None, is_some, refl, sym, ap, subst, ◌∙◌, arith}
 use Rattle.std.specs.Prelude.{nat_lt}
-use Rattle.std.specs.List.{All, AllPairs, slice_get, sum_by}
+use Rattle.std.specs.List.{slice_get, sum_by}
 use Rattle.std.proofs.lemmas.Bool.{and_from, and_right, cases_lt, cond-false, cond-true, cond_both, le-ltb, lt-ltb, ltb-false, ltb-true, or_from, or_left, or_right}
 use Rattle.std.proofs.lemmas.List.{drop_all, length-map, nil_from_length}
 use Rattle.std.proofs.lemmas.List.Elements.{All-contains, All-weaker}
-use Rattle.std.proofs.lemmas.List.Sums.{sum_by-append, sum_by-cons}
+use Rattle.std.proofs.lemmas.List.Sums.{sum_by-append}
 use Rattle.std.proofs.lemmas.Option.{same_Some, slice_get-get_or, slice_get_within}
-use Rattle.sw_hashdir.specs.Directory.{IsAbove}
 use Rattle.sw_hashdir.specs.declared.floor.Floor.{Floor}
 use Rattle.sw_ring.proofs.Roles.{column_length}
 use Rattle.sw_message.specs.Floors.{IsHighest, highest}
@@ -15,28 +14,27 @@ use Rattle.sw_message.specs.Targets.{ascending}
 use Rattle.sw_message.specs.Transcript.{IsRun, Over, Step, given, opens}
 use Rattle.sw_message.specs.declared.miss.Miss.{Miss}
 use Rattle.sw_message.specs.declared.miss.Miss.TheVariants.{NoReply}
-use Rattle.sw_message.specs.declared.sent.Sent.{Sent}
 use Rattle.sw_message.specs.declared.target.Target.{Target}
 use Rattle.sw_message.proofs.Ascents.{sum_ascending}
 use Rattle.sw_message.proofs.Highest.{is_highest}
 use Rattle.sw_quorum.specs.Answers.{Judged, done, floors, missed}
 use Rattle.sw_quorum.specs.DueLaws as laws
-use Rattle.sw_quorum.specs.Laws.{counts-within, forbidden, none-forbidden, parts, sum-ones}
+use Rattle.sw_quorum.specs.Laws.{none-forbidden, parts, sum-ones}
 use Rattle.sw_quorum.specs.Lookups.{slice_get-behind}
-use Rattle.sw_quorum.specs.Places.{apart-from_once, one_if, some-counted}
+use Rattle.sw_quorum.specs.Places.{apart-from_once, some-counted}
 use Rattle.sw_put.specs.Causes.{AreMany, IsCreated, IsSuperseded, IsTooFewCommits, IsTooFewSynced, WasCommitted, WasMissed, WasStored, WasTold}
 use Rattle.sw_put.specs.Plans.{replacement}
 use Rattle.sw_put.specs.Put.{Begun, IsBegun, IsNext, commits, commits_due, committed_end, due, end_at, handoffs, misses, place_of, primaries, put_end, put_message, put_next, replacements, settled_end, stores, stores_due, targets_from, too_few_commits}
 use Rattle.sw_put.specs.declared.end.PutEnd.{PutEnd}
 use Rattle.sw_put.specs.declared.end.PutEnd.TheVariants.{Created, Superseded, TooFewCommits, TooFewSynced}
-use Rattle.sw_put.specs.declared.errand.Errand.TheVariants.{CommitAt, StoreAt}
+use Rattle.sw_put.specs.declared.errand.Errand.TheVariants.{StoreAt}
 use Rattle.sw_put.proofs.Causes.{IsMade, counted, told-all}
-use Rattle.sw_put.proofs.Dues.{commits_due_by, length-replacements, length-stores_due, length-targets_from, replacement-at, store-at, stores_due_by}
+use Rattle.sw_put.proofs.Dues.{commits_due_by, length-stores_due, replacement-at, store-at, stores_due_by}
 use Rattle.sw_put.proofs.Homes.{IsFit, known}
 use Rattle.sw_put.proofs.Quorums.{quorums}
-use Rattle.sw_put.proofs.Transcripts.{commits-balance, counts_as, ended, grew, length-due, over-all, over-closed, own, stores-balance}
+use Rattle.sw_put.proofs.Transcripts.{commits-balance, counts_as, ended, grew, over-all, over-closed, own, stores-balance}
 use Rattle.sw_put.proofs.Warrants.{device-once, index-once, indices-apart}
-use Rattle.sw_put.proofs.Weights.{commit_weight, has_device, has_index, primary-there, store_weight}
+use Rattle.sw_put.proofs.Weights.{has_device, has_index, primary-there, store_weight}
 
 -- ---- quorums
 

@@ -1,9 +1,9 @@
 -- The messages of a put are of its cluster, and are warranted.
-use Rattle.std.proofs.Common.{◌≡◌, ◌≢◌, inl, ℕ, zero, suc, ◌+◌, ◌≤◌, ◌<◌, ◌==◌, List, [], ◌∷◌, ◌++◌, length, map, Contains, Option, Some, None, refl, sym, ap, subst, ◌∙◌, arith}
-use Rattle.std.specs.List.{All, AllPairs, slice_get, sum_by}
+use Rattle.std.proofs.Common.{◌≡◌, ◌≢◌, inl, ℕ, zero, suc, ◌+◌, ◌≤◌, ◌==◌, List, [], ◌∷◌, length, Contains, Some, refl, sym, subst, arith}
+use Rattle.std.specs.List.{AllPairs, sum_by}
 use Rattle.std.proofs.lemmas.List.Elements.{All-weaker}
 use Rattle.std.proofs.lemmas.List.Sums.{sum_by-append}
-use Rattle.sw_message.specs.Learnt.{AreKnown, HasOwn, Heard, KnowsReply, Learnt, OwnPut}
+use Rattle.sw_message.specs.Learnt.{AreKnown, HasOwn, KnowsReply, Learnt, OwnPut}
 use Rattle.sw_message.specs.Running.{IsOf}
 use Rattle.sw_message.specs.Transcript.{Gave, IsRun, Step, Told}
 use Rattle.sw_message.specs.Warrant.{IsDecided, IsSynced, IsWarranted}
@@ -17,7 +17,7 @@ use Rattle.sw_quorum.specs.Answers.{done, missed}
 use Rattle.sw_quorum.specs.Laws.{parts}
 use Rattle.sw_quorum.specs.Places.{apart-from_once, device_once, one_if, part_small, place_right}
 use Rattle.sw_put.specs.Causes.{WasStored}
-use Rattle.sw_put.specs.Put.{Begun, IsBegun, IsNext, due, handoffs, place_of, primaries, put_message, replacements, stores, stores_due, targets_from}
+use Rattle.sw_put.specs.Put.{Begun, IsBegun, IsNext, handoffs, place_of, primaries, put_message, replacements, stores, targets_from}
 use Rattle.sw_put.specs.declared.errand.Errand.{Errand}
 use Rattle.sw_put.specs.declared.errand.Errand.TheVariants.{CommitAt, StoreAt}
 use Rattle.sw_put.proofs.Homes.{Fits, IsFit, fits, known}

@@ -1,5 +1,5 @@
 -- An answer to an open message is taken, and another is ignored.
-use Rattle.std.proofs.Common.{◌≡◌, ◌+◌, ◌++◌, [], ◌∷◌, length, min, Some, refl, sym, ap, subst, ◌∙◌, arith}
+use Rattle.std.proofs.Common.{◌≡◌, ◌+◌, ◌++◌, [], ◌∷◌, length, Some, sym, ap, subst, ◌∙◌, arith}
 use Rattle.std.specs.List.{slice_get}
 use Rattle.sw_message.specs.Transcript.{open_at, told}
 use Rattle.sw_message.specs.declared.target.Target.{Target}

@@ -1,9 +1,8 @@
 -- Some fragment's answer is missing, or some commit's.
-use Rattle.std.proofs.Common.{◌≡◌, ℕ, ◌+◌, ◌<◌, ◌≤◌, List, length, sym, ap, ◌∙◌, arith}
-use Rattle.std.proofs.lemmas.Bool.{le-ltb, lt-ltb}
+use Rattle.std.proofs.Common.{◌≡◌, ℕ, ◌+◌, ◌<◌, ◌≤◌, length, sym, ap, ◌∙◌, arith}
+use Rattle.std.proofs.lemmas.Bool.{lt-ltb}
 use Rattle.std.proofs.lemmas.Bool.Decides.{nat_tests}
 use Rattle.std.specs.Prelude.{nat_lt}
-use Rattle.sw_message.specs.declared.target.Target.{Target}
 use Rattle.sw_put.specs.Inside.{put_seen}
 use Rattle.sw_put.proofs.Changes.{by_fields, commits_count, stores_count}
 use Rattle.sw_put.proofs.Transcripts.{answers-are, commits-within, length-due, stores-within}

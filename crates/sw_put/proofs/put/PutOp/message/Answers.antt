@@ -1,12 +1,8 @@
 -- The message of a fragment has the archive of its index.
-use Rattle.std.proofs.Common.{◌≡◌, ℕ, ◌+◌, ◌<◌, Some, sym, ap, subst, ◌∙◌, arith}
-use Rattle.std.specs.List.{slice_get}
+use Rattle.std.proofs.Common.{◌≡◌, Some, sym, ap, subst, ◌∙◌, arith}
 use Rattle.std.proofs.lemmas.Result.{IfOk-weaker}
-use Rattle.sw_message.specs.Transcript.{Step}
-use Rattle.sw_message.specs.declared.sent.Sent.{Sent}
 use Rattle.sw_put.specs.Plans.{device_in}
-use Rattle.sw_put.specs.Put.{Begun, due, put_message}
-use Rattle.sw_put.specs.Standing.{Stands}
+use Rattle.sw_put.specs.Put.{put_message}
 use Rattle.sw_put.specs.declared.errand.Errand.{Errand}
 use Rattle.sw_put.proofs.Changes.{archives_length, fragment_is}
 use Rattle.sw_put.proofs.Homes.{fits}
