@@ -2,25 +2,25 @@
 
 use crate::object::{OVERHEAD, Request, archive, name, place, put_frag, stamp};
 use crate::server::Server;
-use anyhow::{Result, bail};
+use anyhow::{Result, bail, ensure};
 use measuring::pattern;
 use std::alloc::Global;
 use std::time::{CpuClock, Duration};
-use sw_hashpath::{Place, place_of};
+use sw_hashpath::place_of;
 use sw_memdisk::MemDisk;
 use sw_message::{Msg, Reply};
 
 /// What is measured: an archive of so many bytes, on a disk with so many other folders. A disk keeps the bytes of removed
 /// files for its record, so each has so many rounds and is then made anew.
-#[derive(Clone, Copy, Debug)]
+#[derive(Clone, Copy)]
 struct Case {
     bytes: usize,
     folders: u32,
-    rounds: u64,
+    rounds: u32,
 }
 
 /// How long storing and committing took, in all, in so many rounds.
-#[derive(Clone, Copy, Debug)]
+#[derive(Clone, Copy)]
 struct Cost {
     store: Duration,
     commit: Duration,
@@ -50,19 +50,15 @@ pub fn measure(rt: &(impl Print + CpuClock + AllocGlobal), seconds: u64) -> Resu
 // Measures a case.
 fn print_case(rt: &(impl Print + CpuClock + AllocGlobal), case: Case, seconds: u64) -> Result<()> {
     let cost = cost_of(rt, case, seconds)?;
+    let rounds = u128::from(cost.rounds.max(1));
     println!(rt;
         "{} bytes {} folders put {} commit {} ns",
         case.bytes,
         case.folders,
-        mean(cost.store, cost.rounds),
-        mean(cost.commit, cost.rounds)
+        cost.store.as_nanos() / rounds,
+        cost.commit.as_nanos() / rounds
     )?;
     Ok(())
-}
-
-// The nanoseconds of one of so many rounds.
-fn mean(time: Duration, rounds: u32) -> u128 {
-    time.as_nanos() / u128::from(rounds.max(1))
 }
 
 // The cost of a case, on disks that are made anew until the rounds took so many seconds.
@@ -88,90 +84,95 @@ fn cost_of(clock: &(impl CpuClock + AllocGlobal), case: Case, seconds: u64) -> R
     Ok(cost)
 }
 
-// A primary whose disk has so many folders, each with a tombstone.
+// A primary whose disk has so many folders, each with a tombstone, at the places of hashes that end with a number.
 fn with_folders(alloc: Global, folders: u32) -> Result<Server> {
-    let mut server = empty(alloc)?;
+    let mut server = Server::start(alloc, 0, MemDisk::new(alloc, 1 << 40, Vec::new(alloc)))?;
     for number in 0..folders {
-        let place = numbered(&server, number);
-        let stamp = stamp(0)?;
-        match server.answer(alloc, &Msg::Delete { place, stamp })? {
-            Reply::Deleted { .. } => {}
-            _ => bail!("no tombstone is written"),
-        }
+        let [a, b, c, d] = number.to_be_bytes();
+        let hash = [0, 0, 0, 0, 0, 0, 0, 0, 0, 0, 0, 0, a, b, c, d];
+        let place = place_of(hash, server.cluster().part_power());
+        let stamp = stamp(0);
+        handle(alloc, &mut server, &Msg::Delete { place, stamp })?;
     }
     Ok(server)
 }
 
-// A primary with an empty disk.
-fn empty(alloc: Global) -> Result<Server> {
-    Server::start(alloc, 0, MemDisk::new(alloc, 1 << 40, Vec::new(alloc)))
+// Has a message handled, which does what it asks for.
+fn handle(alloc: Global, server: &mut Server, message: &Msg) -> Result<()> {
+    let reply = server.answer(alloc, message)?;
+    ensure!(
+        matches!(
+            reply,
+            Reply::Synced | Reply::Committed | Reply::Deleted { .. } | Reply::Held(_)
+        ),
+        "a message is not done"
+    );
+    Ok(())
 }
 
-// The place of a hash that ends with a number.
-fn numbered(server: &Server, number: u32) -> Place {
-    let [a, b, c, d] = number.to_be_bytes();
-    let hash = [0, 0, 0, 0, 0, 0, 0, 0, 0, 0, 0, 0, a, b, c, d];
-    place_of(hash, server.cluster().part_power())
+// How long it takes to handle a message so often.
+fn time_of(
+    clock: &(impl CpuClock + AllocGlobal),
+    server: &mut Server,
+    message: &Msg,
+    times: u32,
+) -> Result<Duration> {
+    let begun = clock.thread_cpu_time()?;
+    for _ in 0..times {
+        handle(clock.alloc(), server, message)?;
+    }
+    Ok(clock.thread_cpu_time()?.saturating_sub(begun))
 }
 
 // Stores an archive and commits it, which removes the one of the round before, and adds what that took.
 fn one_round(
     clock: &(impl CpuClock + AllocGlobal),
     server: &mut Server,
-    round: u64,
+    round: u32,
     body: &[u8],
     cost: &mut Cost,
 ) -> Result<()> {
-    let alloc = clock.alloc();
-    let name = name(alloc)?;
-    let bytes = archive(alloc, server.cluster().policy(), &name, round, 0, body)?;
-    let place = place(alloc, server.cluster())?;
-    let put = put_frag(place, stamp(round)?, 0, bytes);
-    let commit = Request::Commit(round, 0).message(alloc, server.cluster())?;
-    let begun = clock.thread_cpu_time()?;
-    let stored = server.answer(alloc, &put)?;
-    let between = clock.thread_cpu_time()?;
-    let committed = server.answer(alloc, &commit)?;
-    let ended = clock.thread_cpu_time()?;
-    let (Reply::Synced, Reply::Committed) = (stored, committed) else {
-        bail!("the archive is not kept");
-    };
-    cost.store = cost.store.saturating_add(between.saturating_sub(begun));
-    cost.commit = cost.commit.saturating_add(ended.saturating_sub(between));
+    let put = put_of(clock.alloc(), server, round, body)?;
+    let commit = Request::Commit(round, 0).message(clock.alloc(), server.cluster())?;
+    let store_time = time_of(clock, server, &put, 1)?;
+    let commit_time = time_of(clock, server, &commit, 1)?;
+    cost.store = cost.store.saturating_add(store_time);
+    cost.commit = cost.commit.saturating_add(commit_time);
     cost.rounds = cost.rounds.saturating_add(1);
     Ok(())
+}
+
+// The message that stores the archive of a round.
+fn put_of(alloc: Global, server: &Server, round: u32, body: &[u8]) -> Result<Msg> {
+    let name = name(alloc)?;
+    let place = place(alloc, server.cluster())?;
+    let bytes = archive(alloc, server.cluster().policy(), &name, round, 0, body)?;
+    Ok(put_frag(place, round, 0, bytes))
 }
 
 // How long an Ask takes in a folder of so many entries that are not durable.
 fn cost_to_ask(
     clock: &(impl CpuClock + AllocGlobal),
-    entries: u64,
+    entries: u32,
     seconds: u64,
 ) -> Result<Duration> {
-    let alloc = clock.alloc();
-    let mut server = empty(alloc)?;
-    for later in 0..entries {
-        let _ = Request::PutFrag(later, 0).send(alloc, &mut server)?;
-    }
-    let ask = Request::Ask.message(alloc, server.cluster())?;
-    let limit = Duration::from_secs(seconds);
-    let begun = clock.thread_cpu_time()?;
+    let mut server = with_entries(clock.alloc(), entries)?;
+    let ask = Request::Ask.message(clock.alloc(), server.cluster())?;
+    let mut taken = Duration::ZERO;
     for hundreds in 1..10_000_000u32 {
-        ask_a_hundred_times(alloc, &mut server, &ask)?;
-        let taken = clock.thread_cpu_time()?.saturating_sub(begun);
-        if taken >= limit {
+        taken = taken.saturating_add(time_of(clock, &mut server, &ask, 100)?);
+        if taken.as_secs() >= seconds {
             return Ok(taken / hundreds / 100);
         }
     }
     bail!("the clock stands still")
 }
 
-// Asks so often.
-fn ask_a_hundred_times(alloc: Global, server: &mut Server, ask: &Msg) -> Result<()> {
-    for _ in 0..100u32 {
-        let Reply::Held(_) = server.answer(alloc, ask)? else {
-            bail!("nothing is told");
-        };
+// A primary whose folder of the object has so many entries.
+fn with_entries(alloc: Global, entries: u32) -> Result<Server> {
+    let mut server = with_folders(alloc, 0)?;
+    for later in 0..entries {
+        let _ = Request::PutFrag(later, 0).tell(alloc, &mut server)?;
     }
-    Ok(())
+    Ok(server)
 }

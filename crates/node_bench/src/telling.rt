@@ -1,10 +1,19 @@
 //! Replies, printed.
 
+use crate::server::Server;
+use anyhow::Result;
+use std::alloc::Global;
 use std::fmt;
 use sw_archive::ArchiveFault;
 use sw_hashdir::{Floor, FloorKind, Listing};
 use sw_hashpath::Place;
-use sw_message::{Foreign, Reply, Spoil};
+use sw_message::{Foreign, Msg, Reply, Spoil};
+
+/// What a server answers, printed.
+pub fn tell(alloc: Global, server: &mut Server, message: &Msg) -> Result<String> {
+    let reply = server.answer(alloc, message)?;
+    Ok(format!(in alloc; "{}", Told(&reply))?)
+}
 
 /// A reply, printed in one line.
 #[derive(Clone, Copy)]
