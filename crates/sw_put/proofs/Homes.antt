@@ -64,9 +64,6 @@ module _ (begun : Begun) (valid : IsBegun begun) where
     below = omega (arith, within, column_length begun.cluster (place_of begun).part valid.rules);
   }
 
-  IsSpare : ℕ → Type 0
-  IsSpare handoff = IsMember begun.cluster handoff × (is_among (column_of begun.cluster (place_of begun).part) handoff ≡ false)
-
   spare : All (λ handoff. IsMember begun.cluster handoff × (is_among (column_of begun.cluster (place_of begun).part) handoff ≡ false)) (handoffs begun)
   spare = λ i d within. (handoffs_known begun.cluster (place_of begun).part i d within, handoffs_apart begun.cluster (place_of begun).part i d within)
 
