@@ -90,7 +90,7 @@ waiting-some past some = some_waiting (opens past) some
 pub closed-none : (past : List Step) → length (opens past) ≡ 0 → opens past ≡ []
 closed-none past none = none_left (opens past) none
 
-all-kept : (ticket : ℕ) (sents : List Sent) → All (λ (sent : Sent). is_not ticket sent ≡ true) sents → filter (is_not ticket) sents ≡ sents
+pub all-kept : (ticket : ℕ) (sents : List Sent) → All (λ (sent : Sent). is_not ticket sent ≡ true) sents → filter (is_not ticket) sents ≡ sents
 all-kept ticket [] all = refl
 all-kept ticket (sent ∷ sents) all =
     ap (λ b. cond b (sent ∷ filter (is_not ticket) sents) (filter (is_not ticket) sents)) (All-head (λ (sent : Sent). is_not ticket sent ≡ true) sent sents all)

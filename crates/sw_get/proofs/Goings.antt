@@ -1,0 +1,188 @@
+-- What is known of a round, by what it does next.
+use Rattle.std.proofs.Common.{◌≡◌, inl, inr, ◌⊎◌, ℕ, ◌+◌, ◌==◌, ◌<◌, ◌≤◌, Bool, true, false, not, ◌&&◌, ◌++◌, List, [], ◌∷◌, length, length-append, nat_lt, Option, Some, None, refl, sym, ap, subst, ◌∙◌, arith}
+use Rattle.std.specs.Prelude.{if◌then◌else◌}
+use Rattle.std.specs.List.{slice_get}
+use Rattle.std.proofs.lemmas.Bool.{eqb-true, ltb-false, ltb-true}
+use Rattle.std.proofs.lemmas.Bool.Decides.{nat_tests}
+use Rattle.std.proofs.lemmas.Option.{none-some, same_Some}
+use Rattle.sw_types.specs.Policy.{PolicyModel}
+use Rattle.sw_hashdir.specs.declared.floor.Floor.{Floor}
+use Rattle.sw_hashdir.specs.declared.floor.FloorKind.{FloorKind}
+use Rattle.sw_hashdir.specs.declared.floor.FloorKind.TheVariants.{Durable, Tombstone}
+use Rattle.sw_message.specs.declared.target.Target.{Target}
+use Rattle.sw_quorum.specs.Lookups.{slice_get_none}
+use Rattle.sw_get.specs.Round.{Devices, Facts, all_devices, ask_or, asked_going, candidates, choices_going, closed, fetch_going, fetch_or, few_going, firsts, is_empty, lost, next_source, ran_out, risen_or, rises, round_going, target_going, target_of}
+use Rattle.sw_get.specs.declared.round_end.Going.{Going}
+use Rattle.sw_get.specs.declared.round_end.Going.TheVariants.{Ask, End, Fetch, Keep, Wait}
+use Rattle.sw_get.specs.declared.round_end.KeptEvent.TheVariants.{Rose}
+use Rattle.sw_get.specs.declared.round_end.RoundEnd.{RoundEnd}
+use Rattle.sw_get.specs.declared.round_end.RoundEnd.TheVariants as end
+
+-- the target is a durable stamp with candidates enough
+pub record IsChosen (policy : PolicyModel) (from : Option Floor) (facts : Facts) (to : Floor) : Type 0 where
+  pub target : target_of from facts ≡ Some to
+  pub durable : to.kind ≡ Durable
+  pub choices : policy.k ≤ length (firsts (candidates policy to.stamp facts))
+
+-- an archive is fetched
+pub record IsNextFetch (policy : PolicyModel) (from : Option Floor) (facts : Facts) (stamp : ℕ) (source : Target) : Type 0 where
+  pub to : Floor
+  pub chosen : IsChosen policy from facts to
+  pub stamp_is : stamp ≡ to.stamp
+  pub few : length facts.tried < policy.k + lost facts
+  pub source_is : next_source policy (candidates policy to.stamp facts) facts ≡ Some source
+
+-- k archives were brought
+pub record IsFound (policy : PolicyModel) (from : Option Floor) (facts : Facts) (stamp : ℕ) : Type 0 where
+  pub to : Floor
+  pub chosen : IsChosen policy from facts to
+  pub stamp_is : stamp ≡ to.stamp
+  pub enough : length facts.sources ≡ policy.k
+
+-- no fetch is open: none was made, as nothing was chosen, or all were answered
+abbrev pub AreFetched : PolicyModel → Option Floor → Facts → Type 0
+AreFetched policy from facts = ((to : Floor) → IsChosen policy from facts to → ⊥) ⊎ (length facts.tried ≤ length facts.sources + lost facts)
+
+abbrev pub EndSays : PolicyModel → Option Floor → Facts → RoundEnd → Type 0
+EndSays policy from facts (end.Found stamp) = IsFound policy from facts stamp
+EndSays policy from facts end.Absent = Unit {0}
+EndSays policy from facts (end.Buried stamp) = Unit {0}
+EndSays policy from facts end.Unanswered = Unit {0}
+EndSays policy from facts (end.TooFew stamp have) = Unit {0}
+
+-- once every device has answered
+abbrev pub LaterSays : PolicyModel → Option Floor → Facts → Going → Type 0
+LaterSays policy from facts (Ask device) = ⊥
+LaterSays policy from facts (Fetch stamp source) = IsNextFetch policy from facts stamp source
+LaterSays policy from facts Wait = length facts.sources + lost facts < length facts.tried
+LaterSays policy from facts (End ending) = AreFetched policy from facts × EndSays policy from facts ending
+LaterSays policy from facts (Keep event) = AreFetched policy from facts
+
+module _ (policy : PolicyModel) (from : Option Floor) (facts : Facts) (tried_few : length facts.tried ≤ policy.k + lost facts) (closed_few : length facts.sources + lost facts ≤ length facts.tried) where
+  abbrev Says : Going → Type 0
+  Says going = LaterSays policy from facts going
+
+  length-closed : length (closed facts) ≡ length facts.sources + lost facts
+  length-closed = omega (arith, length-append (facts.sources ++ facts.gone) facts.failed, length-append facts.sources facts.gone)
+
+  risen : (to : Floor) (ending : RoundEnd) → AreFetched policy from facts → EndSays policy from facts ending → Says (risen_or from to ending)
+  risen to ending fetched says = by_test (rises from to)
+    where
+      by_test : (b : Bool) → Says (if b then Keep (Rose from to) else End ending)
+      by_test true = fetched
+      by_test false = (fetched, says)
+
+  module _ (to : Floor) (chosen : IsChosen policy from facts to) where
+    ran : (gone : List Target) → AreFetched policy from facts → Says (ran_out from to gone)
+    ran (source ∷ others) fetched = fetched
+    ran [] fetched = risen to end.Unanswered fetched tt
+
+    fetching : (source : Option Target) → next_source policy (candidates policy to.stamp facts) facts ≡ source → length facts.tried < policy.k + lost facts → Says (fetch_or from to facts source)
+    fetching (Some source) is few = record { to = to; chosen = chosen; stamp_is = refl; few = few; source_is = is }
+    fetching None is few = by_test (nat_lt (length (closed facts)) (length facts.tried)) refl
+      where
+        by_test : (b : Bool) → nat_lt (length (closed facts)) (length facts.tried) ≡ b → Says (if b then Wait else ran_out from to facts.gone)
+        by_test true less = let fewer = ltb-true (length (closed facts)) (length facts.tried) less in omega (arith, fewer, length-closed)
+        by_test false more = let all = ltb-false (length (closed facts)) (length facts.tried) more in ran facts.gone (inr (omega (arith, all, length-closed)))
+
+    fetched : Says (fetch_going policy from to (candidates policy to.stamp facts) facts)
+    fetched = by_test (length facts.sources == policy.k) refl
+      where
+        by_few : (b : Bool) → nat_lt (length facts.tried) (policy.k + lost facts) ≡ b → (length facts.sources == policy.k) ≡ false
+            → Says (if b then fetch_or from to facts (next_source policy (candidates policy to.stamp facts) facts) else Wait)
+        by_few true less other = fetching (next_source policy (candidates policy to.stamp facts) facts) refl (ltb-true (length facts.tried) (policy.k + lost facts) less)
+        by_few false more other =
+            let all = ltb-false (length facts.tried) (policy.k + lost facts) more in
+            grind (arith, nat_tests)
+
+        by_test : (b : Bool) → (length facts.sources == policy.k) ≡ b
+            → Says (if b then End (end.Found to.stamp) else if nat_lt (length facts.tried) (policy.k + lost facts) then fetch_or from to facts (next_source policy (candidates policy to.stamp facts) facts) else Wait)
+        by_test true enough =
+            let k = eqb-true (length facts.sources) policy.k enough in
+            (inr (omega (arith, k, tried_few)), record { to = to; chosen = chosen; stamp_is = refl; enough = k })
+        by_test false other = by_few (nat_lt (length facts.tried) (policy.k + lost facts)) refl other
+
+  same_to : (to other : Floor) → target_of from facts ≡ Some to → IsChosen policy from facts other → to ≡ other
+  same_to to other is chosen = same_Some to other (sym is ∙ chosen.target)
+
+  few : (to : Floor) (choices : List Target) → candidates policy to.stamp facts ≡ choices → target_of from facts ≡ Some to → length (firsts choices) < policy.k
+      → Says (few_going from to (length (firsts choices)) facts)
+  few to choices these is less = by_misses (is_empty facts.misses)
+    where
+      none : AreFetched policy from facts
+      none = inl (λ other chosen. let same = same_to to other is chosen in
+          let many = subst (λ (floor : Floor). policy.k ≤ length (firsts (candidates policy floor.stamp facts))) (sym same) chosen.choices in
+          omega (arith, many, less, ap (λ (xs : List Target). length (firsts xs)) these))
+
+      by_misses : (b : Bool) → Says (risen_or from to (if b then end.TooFew to.stamp (length (firsts choices)) else end.Unanswered))
+      by_misses true = risen to (end.TooFew to.stamp (length (firsts choices))) none tt
+      by_misses false = risen to end.Unanswered none tt
+
+  choices : (to : Floor) → target_of from facts ≡ Some to → to.kind ≡ Durable → Says (choices_going policy from to (candidates policy to.stamp facts) facts)
+  choices to is durable = by_test (nat_lt (length (firsts (candidates policy to.stamp facts))) policy.k) refl
+    where
+      by_test : (b : Bool) → nat_lt (length (firsts (candidates policy to.stamp facts))) policy.k ≡ b
+          → Says (if b then few_going from to (length (firsts (candidates policy to.stamp facts))) facts else fetch_going policy from to (candidates policy to.stamp facts) facts)
+      by_test true less = few to (candidates policy to.stamp facts) refl is (ltb-true _ policy.k less)
+      by_test false more = fetched to (record { target = is; durable = durable; choices = ltb-false _ policy.k more })
+
+  targeted : (to : Floor) (kind : FloorKind) → target_of from facts ≡ Some to → to.kind ≡ kind → Says (target_going policy from to kind facts)
+  targeted to Tombstone is kind = (inl (λ other chosen. let same = same_to to other is chosen in absurd (cc (ap (λ (floor : Floor). floor.kind) same, kind, chosen.durable))), tt)
+  targeted to Durable is kind = choices to is kind
+
+  pub asked_says : (target : Option Floor) → target_of from facts ≡ target → Says (asked_going policy from target facts)
+  asked_says None is = by_misses (nat_lt (length facts.misses) policy.c)
+    where
+      none : AreFetched policy from facts
+      none = inl (λ other chosen. none-some other (sym is ∙ chosen.target))
+
+      by_misses : (b : Bool) → Says (End (if b then end.Absent else end.Unanswered))
+      by_misses true = (none, tt)
+      by_misses false = (none, tt)
+  asked_says (Some to) is = targeted to to.kind is refl
+
+-- ---- the whole
+
+-- every device has answered or was given up
+pub record AreAllHeard (devices : Devices) (facts : Facts) : Type 0 where
+  pub all_asked : length (all_devices devices) ≤ facts.asked
+  pub all_heard : facts.asked ≤ facts.answered
+
+abbrev pub GoingSays : PolicyModel → Devices → Option Floor → Facts → Going → Type 0
+GoingSays policy devices from facts (Ask device) = slice_get (all_devices devices) facts.asked ≡ Some device
+GoingSays policy devices from facts (Fetch stamp source) = AreAllHeard devices facts × IsNextFetch policy from facts stamp source
+GoingSays policy devices from facts Wait = (facts.answered < facts.asked) ⊎ (length facts.sources + lost facts < length facts.tried)
+GoingSays policy devices from facts (End ending) = AreAllHeard devices facts × AreFetched policy from facts × EndSays policy from facts ending
+GoingSays policy devices from facts (Keep event) = AreAllHeard devices facts × AreFetched policy from facts
+
+module _ (policy : PolicyModel) (devices : Devices) (from : Option Floor) (facts : Facts) (asked_few : facts.asked ≤ length (all_devices devices))
+    (tried_few : length facts.tried ≤ policy.k + lost facts) (closed_few : length facts.sources + lost facts ≤ length facts.tried) where
+  later : (going : Going) → AreAllHeard devices facts → LaterSays policy from facts going → GoingSays policy devices from facts going
+  later (Ask device) heard says = absurd says
+  later (Fetch stamp source) heard says = (heard, says)
+  later Wait heard says = inr says
+  later (End ending) heard says = (heard, says.0, says.1)
+  later (Keep event) heard says = (heard, says)
+
+  hand : (device : Option ℕ) → slice_get (all_devices devices) facts.asked ≡ device → GoingSays policy devices from facts (ask_or policy devices from facts device)
+  hand (Some device) is = by_wait (nat_lt facts.asked (length devices.handoffs)) (nat_lt facts.answered (length devices.handoffs)) refl refl
+    where
+      by_wait : (more waits : Bool) → nat_lt facts.asked (length devices.handoffs) ≡ more → nat_lt facts.answered (length devices.handoffs) ≡ waits
+          → GoingSays policy devices from facts (if not more && waits then Wait else Ask device)
+      by_wait true waits some less = is
+      by_wait false true none less =
+          let asked = ltb-false facts.asked (length devices.handoffs) none in
+          let heard = ltb-true facts.answered (length devices.handoffs) less in
+          inl (omega (arith, asked, heard))
+      by_wait false false none all = is
+  hand None is = by_wait (nat_lt facts.answered facts.asked) refl
+    where
+      by_wait : (b : Bool) → nat_lt facts.answered facts.asked ≡ b → GoingSays policy devices from facts (if b then Wait else asked_going policy from (target_of from facts) facts)
+      by_wait true less = inl (ltb-true facts.answered facts.asked less)
+      by_wait false more =
+          later (asked_going policy from (target_of from facts) facts)
+          (record { all_asked = slice_get_none (all_devices devices) facts.asked is; all_heard = ltb-false facts.answered facts.asked more })
+          (asked_says policy from facts tried_few closed_few (target_of from facts) refl)
+
+  pub going_says : GoingSays policy devices from facts (round_going policy devices from facts)
+  going_says = hand (slice_get (all_devices devices) facts.asked) refl

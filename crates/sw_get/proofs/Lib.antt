@@ -1,0 +1,16 @@
+pub mod Candidates
+pub mod Changes
+pub mod Counts
+pub mod Endings
+pub mod Findings
+pub mod Goings
+pub mod Handings
+pub mod Joins
+pub mod Lists
+pub mod Mailboxes
+pub mod Meanings
+pub mod Members
+pub mod Readings
+pub mod Replies
+pub mod Results
+pub mod Turns

@@ -1,0 +1,131 @@
+-- The devices that a get asks, and those from which it fetches, are of its cluster.
+use Rattle.std.proofs.Common.{◌≡◌, ℕ, ◌+◌, ◌^◌, ◌<◌, ◌≤◌, ◌==◌, Bool, true, false, not, ◌&&◌, List, [], ◌∷◌, length, nat_lt, Some, refl, subst, arith}
+use Rattle.std.specs.Prelude.{if◌then◌else◌, slice_index}
+use Rattle.std.specs.List.{All, filter, find, flat_map, slice_get}
+use Rattle.std.proofs.lemmas.List.{length-append, length-map}
+use Rattle.std.proofs.lemmas.List.Elements.{All-append, All-cons, All-contains_itself, All-filter, All-get_or, All-head, All-map, All-nil, All-tail, All-weaker}
+use Rattle.std.proofs.lemmas.List.Filters.{length-filter_both}
+use Rattle.std.proofs.lemmas.Option.{get_or_from_slice_get, none-some, same_Some, slice_get_within}
+use Rattle.sw_types.specs.Policy.{PolicyModel}
+use Rattle.sw_types.proofs.Policies.{bounds}
+use Rattle.sw_hashdir.specs.Listing.{ListingModel}
+use Rattle.sw_hashdir.specs.declared.entry.Entry.{Entry}
+use Rattle.sw_hashpath.specs.Laws.{part_below}
+use Rattle.sw_hashpath.specs.Place.{IsPlace, hash_of}
+use Rattle.sw_hashpath.proofs.Digests.{IsHash-md5}
+use Rattle.sw_ring.specs.Cluster.{column_of, ids_of}
+use Rattle.sw_ring.specs.Ring.{is_among}
+use Rattle.sw_ring.specs.declared.device.Device.{Device}
+use Rattle.sw_ring.proofs.Among.{among-from_Contains}
+use Rattle.sw_message.specs.Message.{IsMember}
+use Rattle.sw_message.specs.Targets.{ascending, is_before, with_target}
+use Rattle.sw_message.specs.declared.target.Target.{Target}
+use Rattle.sw_get.specs.Get.{Begun, IsBegun, devices, place_of}
+use Rattle.sw_get.specs.Round.{Facts, all_devices, candidates, firsts, has_index, is_free, listed_at, next_source}
+
+-- ---- lists of targets
+
+module _ (P : Target → Type 0) where
+  with-kept : (target : Target) (others : List Target) → P target → All P others → All P (with_target target others)
+  with-kept target [] is all = All-cons P target [] is all
+  with-kept target (other ∷ others) is all = by_order (is_before target other) (with-kept target others is (All-tail P other others all))
+    where
+      by_order : (b : Bool) → All P (with_target target others) → All P (if b then target ∷ other ∷ others else other ∷ with_target target others)
+      by_order true later = All-cons P target (other ∷ others) is all
+      by_order false later = All-cons P other (with_target target others) (All-head P other others all) later
+
+  pub ascending-kept : (targets : List Target) → All P targets → All P (ascending targets)
+  ascending-kept [] all = all
+  ascending-kept (target ∷ targets) all = with-kept target (ascending targets) (All-head P target targets all) (ascending-kept targets (All-tail P target targets all))
+
+  firsts-kept : (targets : List Target) → All P targets → All P (firsts targets)
+  firsts-kept [] all = all
+  firsts-kept (target ∷ targets) all =
+      All-cons P target (filter (λ (other : Target). not (has_index target.index other)) (firsts targets)) (All-head P target targets all)
+      (All-filter (λ (other : Target). not (has_index target.index other)) P (firsts targets) (firsts-kept targets (All-tail P target targets all)))
+
+  found-kept : (test : Target → Bool) (targets : List Target) (target : Target) → find test targets ≡ Some target → All P targets → P target
+  found-kept test [] target is all = absurd (none-some target is)
+  found-kept test (first ∷ targets) target is all = by_test (test first) is (λ later. found-kept test targets target later (All-tail P first targets all))
+    where
+      by_test : (b : Bool) → (if b then Some first else find test targets) ≡ Some target → (find test targets ≡ Some target → P target) → P target
+      by_test true same later = subst P (same_Some first target same) (All-head P first targets all)
+      by_test false found later = later found
+
+  at-kept : (targets : List Target) (number : ℕ) (target : Target) → slice_get targets number ≡ Some target → All P targets → P target
+  at-kept targets number target is all = subst P (get_or_from_slice_get targets number target target is) (All-get_or P targets number target (slice_get_within targets number target is) all)
+
+  pub source-kept : (policy : PolicyModel) (choices : List Target) (facts : Facts) (source : Target) → next_source policy choices facts ≡ Some source → All P choices → P source
+  source-kept policy choices facts source is all = by_few (nat_lt (length facts.tried) policy.k) is
+    where
+      by_few : (b : Bool) → (if b then slice_get (firsts choices) (length facts.tried) else find (is_free facts) choices) ≡ Some source → P source
+      by_few true at = at-kept (firsts choices) (length facts.tried) source at (firsts-kept choices all)
+      by_few false found = found-kept (is_free facts) choices source found all
+
+-- candidates are at devices that listed
+module _ (P : ℕ → Type 0) where
+  abbrev At : Target → Type 0
+  At target = P target.device
+
+  listed-kept : (total stamp : ℕ) (one : ℕ × ListingModel) → P one.0 → All At (listed_at total stamp one)
+  listed-kept total stamp one is =
+      All-map At (λ (entry : Entry). record { index = entry.index; device = one.0 }) (filter (λ (entry : Entry). entry.stamp == stamp && nat_lt entry.index total) one.1.entries)
+      (λ i d within. is)
+
+  all-listed : (total stamp : ℕ) (lists : List (ℕ × ListingModel)) → All (λ (one : ℕ × ListingModel). P one.0) lists → All At (flat_map (listed_at total stamp) lists)
+  all-listed total stamp [] all = All-nil At
+  all-listed total stamp (one ∷ lists) all =
+      All-append At (listed_at total stamp one) (flat_map (listed_at total stamp) lists) (listed-kept total stamp one (All-head (λ (one : ℕ × ListingModel). P one.0) one lists all))
+      (all-listed total stamp lists (All-tail (λ (one : ℕ × ListingModel). P one.0) one lists all))
+
+  pub candidates-kept : (policy : PolicyModel) (stamp : ℕ) (facts : Facts) → All (λ (one : ℕ × ListingModel). P one.0) facts.lists → All At (candidates policy stamp facts)
+  candidates-kept policy stamp facts all =
+      ascending-kept At (flat_map (listed_at (policy.k + policy.m) stamp) facts.lists) (all-listed (policy.k + policy.m) stamp facts.lists all)
+
+-- ---- the devices of the place
+
+module _ (begun : Begun) where
+  pub place_right : IsPlace begun.cluster.part_power (place_of begun)
+  place_right = record { hash = IsHash-md5 _; part = refl }
+
+  part_small : (place_of begun).part < 2 ^ begun.cluster.part_power
+  part_small = part_below (hash_of begun.name begun.cluster.prefix begun.cluster.suffix) begun.cluster.part_power (IsHash-md5 _)
+
+  handoffs_known : All (IsMember begun.cluster) (devices begun).handoffs
+  handoffs_known =
+      let ids = ids_of begun.cluster in
+      All-filter (λ id. not (is_among (column_of begun.cluster (place_of begun).part) id)) (IsMember begun.cluster) ids
+      (All-weaker _ (IsMember begun.cluster) (among-from_Contains ids) ids (All-contains_itself ids))
+
+  devices_known : IsBegun begun → All (IsMember begun.cluster) (all_devices (devices begun))
+  devices_known valid = All-append (IsMember begun.cluster) (devices begun).handoffs (devices begun).primaries handoffs_known (valid.rules.known (place_of begun).part part_small)
+
+  -- there are some primaries, and few devices
+  pub primaries_some : IsBegun begun → 0 < length (devices begun).primaries
+  primaries_some valid =
+      omega (arith, length-map begun.cluster.rows (λ (row : List ℕ). slice_index row (place_of begun).part), valid.rules.rows, (bounds begun.cluster.policy valid.rules.policy).some_data)
+
+  pub devices_few : IsBegun begun → length (all_devices (devices begun)) ≤ 96
+  devices_few valid =
+      let is_primary = is_among (column_of begun.cluster (place_of begun).part) in
+      omega (
+        arith,
+        length-append (devices begun).handoffs (devices begun).primaries,
+        length-map begun.cluster.rows (λ (row : List ℕ). slice_index row (place_of begun).part),
+        valid.rules.rows,
+        (bounds begun.cluster.policy valid.rules.policy).total,
+        length-filter_both (λ (id : ℕ). not (is_primary id)) (λ (id : ℕ). not (not (is_primary id))) (λ id. refl) (ids_of begun.cluster),
+        length-map begun.cluster.devices (λ (device : Device). device.id),
+        valid.rules.few,
+      )
+
+  pub asked_known : IsBegun begun → (number device : ℕ) → slice_get (all_devices (devices begun)) number ≡ Some device → IsMember begun.cluster device
+  asked_known valid number device is =
+      subst (IsMember begun.cluster) (get_or_from_slice_get (all_devices (devices begun)) number device device is)
+      (All-get_or (IsMember begun.cluster) (all_devices (devices begun)) number device (slice_get_within (all_devices (devices begun)) number device is) (devices_known valid))
+
+  pub source_known : (stamp : ℕ) (facts : Facts) (source : Target) → next_source begun.cluster.policy (candidates begun.cluster.policy stamp facts) facts ≡ Some source
+      → All (λ (one : ℕ × ListingModel). IsMember begun.cluster one.0) facts.lists → IsMember begun.cluster source.device
+  source_known stamp facts source is all =
+      source-kept (λ (target : Target). IsMember begun.cluster target.device) begun.cluster.policy (candidates begun.cluster.policy stamp facts) facts source is
+      (candidates-kept (IsMember begun.cluster) begun.cluster.policy stamp facts all)

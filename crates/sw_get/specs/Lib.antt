@@ -1,0 +1,9 @@
+pub mod Gathered
+pub mod Get
+pub mod GetInside
+pub mod Inside
+pub mod Mailbox
+pub mod MailboxInside
+pub mod Meaning
+pub mod Round
+pub mod Standing

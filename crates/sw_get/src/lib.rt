@@ -1,0 +1,23 @@
+//! Gets, as operations: rounds of asking every device of a place, and of fetching archives of the newest stamp.
+#![tactic(auto)]
+
+mod choices;
+mod deciding;
+mod end;
+mod errand;
+mod gathered;
+mod get;
+mod hearing;
+mod mailbox;
+mod operation;
+mod reading;
+mod round;
+mod round_end;
+mod stepping;
+
+pub use crate::end::GetEnd;
+pub use crate::get::GetOp;
+pub use crate::round_end::{Going, KeptEvent, RoundEnd};
+
+#[cfg(test)]
+mod tests;
