@@ -3,11 +3,11 @@ pub mod Archives
 mod Cuts
 mod Decisions
 mod Decodings
-mod Faults
-mod Gatherings
+pub mod Faults
+pub mod Gatherings
 mod Heads
 mod Labels
-mod Objects
+pub mod Objects
 mod Openings
 mod Paths
 mod Payloads

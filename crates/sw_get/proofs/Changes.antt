@@ -3,6 +3,7 @@ use Rattle.std.proofs.Common.{◌≡◌, inl, inr, ℕ, ◌+◌, ◌≤◌, ◌=
 use Rattle.std.specs.Prelude.{MatchOption}
 use Rattle.std.specs.List.{All, find, slice_get}
 use Rattle.std.proofs.lemmas.Bool.{cases_Bool, ltb-false, ltb-true}
+use Rattle.std.proofs.lemmas.List.{nil_from_length}
 use Rattle.std.proofs.lemmas.List.Elements.{All-cons, All-filter, All-weaker}
 use Rattle.std.proofs.lemmas.Option.{none-some, same_Some}
 use Rattle.sw_types.specs.Object.{ObjectModel}
@@ -10,17 +11,17 @@ use Rattle.sw_hashdir.specs.declared.floor.Floor.{Floor}
 use Rattle.sw_message.specs.Transcript.{Gave, Hand, Next, Step, Told, is_not, is_waiting, open_at, opens, told}
 use Rattle.sw_message.specs.declared.reply.Reply.{Reply}
 use Rattle.sw_message.specs.declared.sent.Sent.{Sent}
-use Rattle.sw_quorum.specs.Transcripts.{closed-none, found, run-told, told-ignored, told-open, waiting-some}
+use Rattle.sw_quorum.specs.Transcripts.{found, run-told, told-ignored, told-open, waiting-some}
 use Rattle.sw_get.specs.Get.{AreTurns, Begun, EndsAfter, Hears, IsEnd, IsMeant, IsNext, Sends, devices, from_in, going_in, next_after, sends}
 use Rattle.sw_get.specs.Mailbox.{GoesWith, MailboxModel, Unread}
 use Rattle.sw_get.specs.Meaning.{Meaning}
 use Rattle.sw_get.specs.Round.{Facts, lost, round_going}
-use Rattle.sw_get.specs.Standing.{AreCounted, AreFindings, Findings, GetModel, FindsObject, IsErrand, IsOpen, IsReady, Lead, Stands, Subject, going_of}
+use Rattle.sw_get.specs.Standing.{AreCounted, AreFindings, Findings, GetModel, FindsObject, IsErrand, IsOpen, IsReady, IsWithin, Lead, Stands, Subject, going_of}
 use Rattle.sw_get.specs.declared.end.GetEnd.{GetEnd}
 use Rattle.sw_get.specs.declared.errand.Errand.{Errand}
 use Rattle.sw_get.specs.declared.round_end.Going.{Going}
 use Rattle.sw_get.specs.declared.round_end.Going.TheVariants as going
-use Rattle.sw_get.proofs.Counts.{counted-taken, opens_are, within}
+use Rattle.sw_get.proofs.Counts.{counted-taken, opens_are, within as answers_few}
 use Rattle.sw_get.proofs.Goings.{AreAllHeard, AreFetched, GoingSays, going_says}
 use Rattle.sw_get.proofs.Lists.{slice_get_before, slice_get_last}
 use Rattle.sw_get.proofs.Mailboxes.{Taken}
@@ -31,6 +32,24 @@ lead-snoc : (begun : Begun) (unread : List Unread) (read past : List Step) (erra
     → Lead begun (unread ++ (errand, answer) ∷ []) read (Told sent answer ∷ past)
 lead-snoc begun [] read past errand answer sent is leads = (sent, is, ap (λ path. Told sent answer ∷ path) leads)
 lead-snoc begun (one ∷ later) read past errand answer sent is leads = (leads.0, leads.1, lead-snoc begun later (Told leads.0 one.1 ∷ read) past errand answer sent is leads.2)
+
+-- ---- nothing is open
+
+module _ (begun : Begun) (from : Option Floor) (facts : Facts) (opened : List Sent) (counted : AreCounted facts [] opened) (within : IsWithin begun from facts) where
+  all_fetched : AreFetched begun.cluster.policy from facts → length facts.tried ≤ length facts.sources + lost facts
+  all_fetched (inr all) = all
+  all_fetched (inl none) = elim (cases_Bool (nat_lt 0 (length facts.tried))) [
+    | inl some ↦
+        let f = within.fetching (ltb-true 0 (length facts.tried) some) in
+        absurd (none f.to (record { target = f.target; durable = f.durable; choices = f.choices }))
+    | inr none ↦ let no_more = ltb-false 0 (length facts.tried) none in omega (arith, no_more)
+  ]
+
+  -- where every device was heard and every fetch was answered
+  pub none_open : AreAllHeard (devices begun) facts → AreFetched begun.cluster.policy from facts → opened ≡ []
+  none_open heard fetched =
+      let few = answers_few facts opened [] counted in
+      nil_from_length opened (omega (arith, opens_are facts opened counted, heard.all_heard, all_fetched fetched, few.0, few.1))
 
 module _ (get : GetModel) (begun : Begun) (past : List Step) (stands : Stands get begun past) where
   -- ---- an answer is taken
@@ -148,7 +167,7 @@ module _ (get : GetModel) (begun : Begun) (past : List Step) (stands : Stands ge
 
     -- no more answers were read than there are messages
     pub few : (get.findings.facts.answered ≤ get.findings.facts.asked) × (length get.findings.facts.sources + lost get.findings.facts ≤ length get.findings.facts.tried)
-    few = within get.findings.facts (opens past) [] counted_all
+    few = answers_few get.findings.facts (opens past) [] counted_all
 
     pub says : (going : Going) → going_of get ≡ going → GoingSays begun.cluster.policy (devices begun) get.findings.from get.findings.facts going
     says going goes =
@@ -166,18 +185,8 @@ module _ (get : GetModel) (begun : Begun) (past : List Step) (stands : Stands ge
         ])
 
     -- and none is, where every device was heard and every fetch was answered
-    all_fetched : AreFetched begun.cluster.policy get.findings.from get.findings.facts → length get.findings.facts.tried ≤ length get.findings.facts.sources + lost get.findings.facts
-    all_fetched (inr all) = all
-    all_fetched (inl none) = elim (cases_Bool (nat_lt 0 (length get.findings.facts.tried))) [
-      | inl some ↦
-          let f = stands.finds.within.fetching (ltb-true 0 (length get.findings.facts.tried) some) in
-          absurd (none f.to (record { target = f.target; durable = f.durable; choices = f.choices }))
-      | inr none ↦ let no_more = ltb-false 0 (length get.findings.facts.tried) none in omega (arith, no_more)
-    ]
-
     pub closes : AreAllHeard (devices begun) get.findings.facts → AreFetched begun.cluster.policy get.findings.from get.findings.facts → opens past ≡ []
-    closes heard fetched =
-        closed-none past (omega (arith, opens_are get.findings.facts (opens past) counted_all, heard.all_heard, all_fetched fetched, few.0, few.1))
+    closes heard fetched = none_open begun get.findings.from get.findings.facts (opens past) counted_all stands.finds.within heard fetched
 
     -- ---- a message is handed out
 

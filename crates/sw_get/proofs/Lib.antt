@@ -3,6 +3,7 @@ pub mod Changes
 pub mod Counts
 pub mod Endings
 pub mod Findings
+pub mod Founds
 pub mod Goings
 pub mod Handings
 pub mod Joins
@@ -13,4 +14,7 @@ pub mod Members
 pub mod Readings
 pub mod Replies
 pub mod Results
+pub mod Runs
+pub mod Sameness
+pub mod Shown
 pub mod Turns

@@ -1,6 +1,6 @@
 -- What is found at a number of a list.
 use Rattle.std.proofs.Common.{◌≡◌, ℕ, zero, suc, ◌<◌, List, [], ◌∷◌, ◌++◌, length, Some, refl, arith}
-use Rattle.std.specs.List.{slice_get}
+use Rattle.std.specs.List.{AllZip, slice_get}
 use Rattle.std.proofs.lemmas.Option.{none-some}
 
 -- there is an item at each number below the length
@@ -20,3 +20,24 @@ slice_get_last [] x zero is = refl
 slice_get_last [] x (suc i) is = absurd (omega (arith, is))
 slice_get_last (y ∷ xs) x zero is = absurd (omega (arith, is))
 slice_get_last (y ∷ xs) x (suc i) is = slice_get_last xs x i (omega (arith, is))
+
+-- ---- two lists, place by place
+
+module _ {A B : Type 0} where
+  pub zip-push : (R : A → B → Type 0) (xs : List A) (ys : List B) (x : A) (y : B) → AllZip R xs ys → R x y → AllZip R (xs ++ x ∷ []) (ys ++ y ∷ [])
+  zip-push R [] [] x y all is = (is, tt)
+  zip-push R [] (b ∷ ys) x y all is = absurd all
+  zip-push R (a ∷ xs) [] x y all is = absurd all
+  zip-push R (a ∷ xs) (b ∷ ys) x y all is = (all.0, zip-push R xs ys x y all.1 is)
+
+  pub zip-weaker : (R S : A → B → Type 0) → ((x : A) (y : B) → R x y → S x y) → (xs : List A) (ys : List B) → AllZip R xs ys → AllZip S xs ys
+  zip-weaker R S follows [] [] all = tt
+  zip-weaker R S follows [] (b ∷ ys) all = absurd all
+  zip-weaker R S follows (a ∷ xs) [] all = absurd all
+  zip-weaker R S follows (a ∷ xs) (b ∷ ys) all = (follows a b all.0, zip-weaker R S follows xs ys all.1)
+
+  -- where there is nothing, anything holds
+  pub zip-none : (R S : A → B → Type 0) (xs : List A) (ys : List B) → xs ≡ [] → AllZip R xs ys → AllZip S xs ys
+  zip-none R S [] [] none all = tt
+  zip-none R S [] (b ∷ ys) none all = absurd all
+  zip-none R S (a ∷ xs) ys none all = absurd (cc)

@@ -26,7 +26,7 @@ use Rattle.sw_get.specs.Round.{Facts, all_devices, candidates, firsts, has_index
 -- ---- lists of targets
 
 module _ (P : Target → Type 0) where
-  with-kept : (target : Target) (others : List Target) → P target → All P others → All P (with_target target others)
+  pub with-kept : (target : Target) (others : List Target) → P target → All P others → All P (with_target target others)
   with-kept target [] is all = All-cons P target [] is all
   with-kept target (other ∷ others) is all = by_order (is_before target other) (with-kept target others is (All-tail P other others all))
     where

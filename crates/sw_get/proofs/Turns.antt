@@ -69,10 +69,10 @@ target-heard turns sent meaning = highest_from-append None (floors_shown turns) 
 -- ---- rounds
 
 module _ (begun : Begun) (turns : List Turn) where
-  abbrev all : ℕ
+  abbrev pub all : ℕ
   all = length (all_devices (devices begun))
 
-  abbrev now : List Turn
+  abbrev pub now : List Turn
   now = (round_in begun turns).turns
 
   -- a message of the round that goes on

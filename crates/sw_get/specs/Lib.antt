@@ -1,3 +1,4 @@
+pub mod Causes
 pub mod Gathered
 pub mod Get
 pub mod GetInside

@@ -8,6 +8,7 @@ mod errand;
 mod gathered;
 mod get;
 mod hearing;
+mod laws;
 mod mailbox;
 mod operation;
 mod reading;
@@ -17,7 +18,10 @@ mod stepping;
 
 pub use crate::end::GetEnd;
 pub use crate::get::GetOp;
+pub use crate::laws::found_law;
 pub use crate::round_end::{Going, KeptEvent, RoundEnd};
 
+#[cfg(test)]
+mod get_tests;
 #[cfg(test)]
 mod tests;

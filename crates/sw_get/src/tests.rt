@@ -10,13 +10,13 @@ use sw_message::{Foreign, Miss, Reply, Spoil};
 use sw_types::{Bytes, Head, Name, NoMemory, Object, Policy, Stamp};
 
 // Durable archives of three indices at the stamp 7, and a tombstone at 8.
-const ZERO: &[&str] = &["0000000000.00007#0#d.data"];
+pub(crate) const ZERO: &[&str] = &["0000000000.00007#0#d.data"];
 
-const ONE: &[&str] = &["0000000000.00007#1#d.data"];
+pub(crate) const ONE: &[&str] = &["0000000000.00007#1#d.data"];
 
-const TWO: &[&str] = &["0000000000.00007#2#d.data"];
+pub(crate) const TWO: &[&str] = &["0000000000.00007#2#d.data"];
 
-const GRAVE: &[&str] = &["0000000000.00008.ts"];
+pub(crate) const GRAVE: &[&str] = &["0000000000.00008.ts"];
 
 const STRANGE: Miss = Miss::Spoiled(Spoil::Foreign(Foreign::Object));
 
@@ -26,7 +26,7 @@ const SHORT: Miss = Miss::Spoiled(Spoil::Fault(ArchiveFault::Short { found: 3 })
 
 // What a device answers: what it has, that it lacks the archive, the archive of a stamp and index of a body, or nothing.
 #[derive(Clone, Copy, Debug)]
-enum Says {
+pub(crate) enum Says {
     Has(&'static [&'static str]),
     Lacks,
     Sends(u64, u32, &'static [u8]),
@@ -44,7 +44,7 @@ fn listing(alloc: Global, names: &[&str]) -> Result<Listing, NoMemory> {
     HashDir::of(alloc, &texts)?.listing(alloc)
 }
 
-fn a_c_o(alloc: Global) -> Result<Name, Fail> {
+pub(crate) fn a_c_o(alloc: Global) -> Result<Name, Fail> {
     Ok(Name::make(alloc, b"a", b"c", b"o")?)
 }
 
@@ -61,7 +61,7 @@ fn made(alloc: Global, units: u64, index: u32, body: &[u8]) -> Result<Bytes, Fai
 }
 
 impl Says {
-    fn reply(self, alloc: Global) -> Result<Option<Reply>, Fail> {
+    pub(crate) fn reply(self, alloc: Global) -> Result<Option<Reply>, Fail> {
         Ok(match self {
             Has(names) => Some(Reply::Held(listing(alloc, names)?)),
             Lacks => Some(Reply::Gone(listing(alloc, &[])?)),

@@ -8,7 +8,7 @@ use Rattle.sw_archive.specs.Fault.{IsFault}
 use Rattle.sw_archive.specs.declared.fault.ArchiveFault.{ArchiveFault}
 use Rattle.sw_archive.proofs.Archives.{one_archive}
 use Rattle.sw_ring.specs.Cluster.{ClusterModel}
-use Rattle.sw_message.specs.Spoil.{Differs, DiffersIn, IsAlike, IsArchiveOf, IsAsked, IsOfPlace, IsSpoil}
+use Rattle.sw_message.specs.Spoil.{Differs, DiffersIn, IsAlike, IsArchiveOf, IsAsked, IsOfPlace, IsSpoil, IsSpoilOf}
 use Rattle.sw_message.specs.declared.spoil.Foreign.{Foreign as AForeign}
 use Rattle.sw_message.specs.declared.spoil.Foreign.TheVariants.{Name, Stamp, Index, Code, Object}
 use Rattle.sw_message.specs.declared.spoil.Spoil.{Spoil}
@@ -65,16 +65,6 @@ pub other_than_asked : (Named : NameModel → Type 0) (policy : PolicyModel) (st
 other_than_asked Named policy stamp index bytes archive other foreign is spelled asked differs =
     asked_alike Named policy stamp index other foreign (subst (IsAsked Named policy stamp index) (one_archive bytes archive other is spelled) asked) differs
 
-module _ (cluster : ClusterModel) (place : PlaceModel) (stamp index : ℕ) (bytes : List ℕ) where
-  pub asked_or_foreign : (foreign : AForeign) → IsArchiveOf cluster place stamp index bytes → IsSpoil cluster place stamp index bytes (Foreign foreign) → ⊥
-  asked_or_foreign foreign is other =
-      other_than_asked (IsOfPlace cluster place) cluster.policy stamp index bytes is.archive other.0 foreign is.spelled other.1 is.asked other.2
-
-  one_foreign : (a b : AForeign) → IsSpoil cluster place stamp index bytes (Foreign a) → IsSpoil cluster place stamp index bytes (Foreign b) → a ≡ b
-  one_foreign a b x y =
-      one_difference (IsOfPlace cluster place) cluster.policy stamp index y.0 a b
-      (subst (λ (archive : ArchiveModel). Differs (IsOfPlace cluster place) cluster.policy stamp index archive a) (one_archive bytes x.0 y.0 x.1 y.1) x.2) y.2
-
 -- ---- spoils
 
 -- what the law of faults says
@@ -82,16 +72,28 @@ pub record FaultLaw : Type 0 where
   pub not_both : (bytes : List ℕ) (archive : ArchiveModel) (fault : ArchiveFault) → IsArchive bytes archive → IsFault bytes fault → ⊥
   pub one : (bytes : List ℕ) (first second : ArchiveFault) → IsFault bytes first → IsFault bytes second → first ≡ second
 
+module _ (law : FaultLaw) (Named : NameModel → Type 0) (policy : PolicyModel) (stamp index : ℕ) (bytes : List ℕ) where
+  abbrev SpoilsOf : Spoil → Type 0
+  SpoilsOf spoil = IsSpoilOf Named policy stamp index bytes spoil
+
+  pub asked_or_spoil : (archive : ArchiveModel) → IsArchive bytes archive → IsAsked Named policy stamp index archive → (spoil : Spoil) → SpoilsOf spoil → ⊥
+  asked_or_spoil archive is asked (Fault fault) spoils = law.not_both bytes archive fault is spoils
+  asked_or_spoil archive is asked (Foreign foreign) spoils = other_than_asked Named policy stamp index bytes archive spoils.0 foreign is spoils.1 asked spoils.2
+
+  one_foreign : (a b : AForeign) → SpoilsOf (Foreign a) → SpoilsOf (Foreign b) → a ≡ b
+  one_foreign a b x y =
+      one_difference Named policy stamp index y.0 a b (subst (λ (archive : ArchiveModel). Differs Named policy stamp index archive a) (one_archive bytes x.0 y.0 x.1 y.1) x.2) y.2
+
+  pub one_spoil_of : (a b : Spoil) → SpoilsOf a → SpoilsOf b → a ≡ b
+  one_spoil_of (Fault a) (Fault b) x y = ap (λ f. Fault f) (law.one bytes a b x y)
+  one_spoil_of (Fault a) (Foreign b) x y = absurd (law.not_both bytes y.0 a y.1 x)
+  one_spoil_of (Foreign a) (Fault b) x y = absurd (law.not_both bytes x.0 b x.1 y)
+  one_spoil_of (Foreign a) (Foreign b) x y = ap (λ f. Foreign f) (one_foreign a b x y)
+
+-- of a place
 module _ (law : FaultLaw) (cluster : ClusterModel) (place : PlaceModel) (stamp index : ℕ) (bytes : List ℕ) where
-  abbrev Spoils : Spoil → Type 0
-  Spoils spoil = IsSpoil cluster place stamp index bytes spoil
+  pub asked_or_spoiled : (spoil : Spoil) → IsArchiveOf cluster place stamp index bytes → IsSpoil cluster place stamp index bytes spoil → ⊥
+  asked_or_spoiled spoil is spoils = asked_or_spoil law (IsOfPlace cluster place) cluster.policy stamp index bytes is.archive is.spelled is.asked spoil spoils
 
-  pub asked_or_spoiled : (spoil : Spoil) → IsArchiveOf cluster place stamp index bytes → Spoils spoil → ⊥
-  asked_or_spoiled (Fault fault) is spoils = law.not_both bytes is.archive fault is.spelled spoils
-  asked_or_spoiled (Foreign foreign) is spoils = asked_or_foreign cluster place stamp index bytes foreign is spoils
-
-  pub one_spoil : (a b : Spoil) → Spoils a → Spoils b → a ≡ b
-  one_spoil (Fault a) (Fault b) x y = ap (λ f. Fault f) (law.one bytes a b x y)
-  one_spoil (Fault a) (Foreign b) x y = absurd (law.not_both bytes y.0 a y.1 x)
-  one_spoil (Foreign a) (Fault b) x y = absurd (law.not_both bytes x.0 b x.1 y)
-  one_spoil (Foreign a) (Foreign b) x y = ap (λ f. Foreign f) (one_foreign cluster place stamp index bytes a b x y)
+  pub one_spoil : (a b : Spoil) → IsSpoil cluster place stamp index bytes a → IsSpoil cluster place stamp index bytes b → a ≡ b
+  one_spoil a b x y = one_spoil_of law (IsOfPlace cluster place) cluster.policy stamp index bytes a b x y

@@ -1,0 +1,249 @@
+-- An answer has one meaning, and a transcript one list of turns.
+use Rattle.std.proofs.Common.{◌≡◌, ◌≢◌, inl, inr, ◌⊎◌, ℕ, ◌+◌, ◌<◌, ◌≤◌, ◌++◌, Bool, true, false, List, [], ◌∷◌, length, length-append, append-nil, Option, Some, None, refl, sym, ap, subst, ◌∙◌, arith}
+use Rattle.std.specs.Prelude.{if◌then◌else◌}
+use Rattle.std.specs.List.{All, AllPairs}
+use Rattle.std.proofs.lemmas.List.Elements.{All-nil}
+use Rattle.sw_hashdir.specs.Listing.{ListingModel}
+use Rattle.sw_hashpath.specs.Place.{PlaceModel}
+use Rattle.sw_archive.specs.Archive.{ArchiveModel, IsArchive, IsSound}
+use Rattle.sw_archive.specs.Assemble.{AreAlike, AreTogether, IsNext}
+use Rattle.sw_archive.proofs.Archives.{one_archive}
+use Rattle.sw_archive.proofs.Faults.{no_fault, one_fault}
+use Rattle.sw_archive.proofs.Gatherings.{AreTogether-push}
+use Rattle.sw_archive.proofs.Objects.{no_archive, one_body}
+use Rattle.sw_message.specs.Spoil.{IsNamed, IsSpoilOf}
+use Rattle.sw_message.specs.Transcript.{Gave, Step, Told}
+use Rattle.sw_message.specs.declared.message.Msg.{Msg}
+use Rattle.sw_message.specs.declared.message.Msg.TheVariants as message
+use Rattle.sw_message.specs.declared.miss.Miss.TheVariants as miss
+use Rattle.sw_message.specs.declared.reply.Reply.{Reply}
+use Rattle.sw_message.specs.declared.reply.Reply.TheVariants as reply
+use Rattle.sw_message.specs.declared.sent.Sent.{Sent}
+use Rattle.sw_message.specs.declared.spoil.Foreign.TheVariants as foreign
+use Rattle.sw_message.specs.declared.spoil.Spoil.{Spoil}
+use Rattle.sw_message.specs.declared.spoil.Spoil.TheVariants as spoil
+use Rattle.sw_message.proofs.Spoils.{FaultLaw, asked_or_spoil, one_spoil_of}
+use Rattle.sw_get.specs.Get.{AreTurns, Begun, Hears, IsMeant, Round, Sends, Turn, brought_by, facts_in, facts_of, is_first, round_in, wanted}
+use Rattle.sw_get.specs.Meaning.{AreRight, AreWrong, Brings, IsFetched, IsRead, IsWanted, Lacks, Lists, Meaning, Misses, Strays, Wanted, asked_meaning}
+use Rattle.sw_get.specs.Round.{Facts}
+use Rattle.sw_get.proofs.Joins.{enough_from_k}
+use Rattle.sw_get.proofs.Meanings.{asked_cases}
+use Rattle.sw_get.proofs.Turns.{all, now}
+
+law : FaultLaw
+law = record { not_both = no_fault; one = one_fault }
+
+-- ---- what bytes mean
+
+module _ (wanted : Wanted) (others : List ArchiveModel) (index : ℕ) (bytes : List ℕ) where
+  abbrev Brought : Meaning → Type 0
+  Brought meaning = (archive : ArchiveModel) × (meaning ≡ Brings archive) × IsWanted wanted index bytes archive × IsNext others archive × AreRight wanted.policy (others ++ archive ∷ [])
+
+  abbrev Strayed : Meaning → Type 0
+  Strayed meaning = (archive : ArchiveModel) × (meaning ≡ Misses (miss.Spoiled (spoil.Foreign foreign.Object))) × IsWanted wanted index bytes archive × Strays wanted.policy others archive
+
+  abbrev Spoilt : Meaning → Type 0
+  Spoilt meaning = (how : Spoil) × (meaning ≡ Misses (miss.Spoiled how)) × IsSpoilOf (IsNamed wanted.name) wanted.policy wanted.stamp index bytes how
+
+  view : (meaning : Meaning) → IsRead wanted others index bytes meaning → Brought meaning ⊎ (Strayed meaning ⊎ Spoilt meaning)
+  view (Brings archive) is = inl (archive, refl, is.0, is.1, is.2)
+  view (Misses (miss.Spoiled (spoil.Fault fault))) is = inr (inr (spoil.Fault fault, refl, is))
+  view (Misses (miss.Spoiled (spoil.Foreign foreign.Name))) is = inr (inr (spoil.Foreign foreign.Name, refl, is))
+  view (Misses (miss.Spoiled (spoil.Foreign foreign.Stamp))) is = inr (inr (spoil.Foreign foreign.Stamp, refl, is))
+  view (Misses (miss.Spoiled (spoil.Foreign foreign.Index))) is = inr (inr (spoil.Foreign foreign.Index, refl, is))
+  view (Misses (miss.Spoiled (spoil.Foreign foreign.Code))) is = inr (inr (spoil.Foreign foreign.Code, refl, is))
+  view (Misses (miss.Spoiled (spoil.Foreign foreign.Object))) is = inr (inl (is.0, refl, is.1, is.2))
+  view (Misses miss.NoReply) is = absurd is
+  view (Misses miss.DiskFault) is = absurd is
+  view (Misses (miss.NoSpace need free)) is = absurd is
+  view (Misses miss.NoMemory) is = absurd is
+  view (Misses miss.Missing) is = absurd is
+  view (Misses miss.Gone) is = absurd is
+  view (Misses miss.Odd) is = absurd is
+  view (Lists listing) is = absurd is
+  view (Lacks listing) is = absurd is
+
+  module _ (together : AreTogether others) where
+    -- archives tell their body's MD5, or another one, and not both
+    right_or_wrong : (archive : ArchiveModel) → IsWanted wanted index bytes archive → IsNext others archive → AreRight wanted.policy (others ++ archive ∷ []) → AreWrong wanted.policy (others ++ archive ∷ []) → ⊥
+    right_or_wrong archive is next right wrong =
+        let these : List ArchiveModel = others ++ archive ∷ [] in
+        let told = right wrong.enough in
+        let some : 0 < length these = omega (arith, length-append others (archive ∷ [])) in
+        let enough = enough_from_k others archive next (wrong.enough ∙ sym is.1.code.0) in
+        let all_together = AreTogether-push others archive together is.0.sound next in
+        let body = one_body these told.0.body wrong.other.body enough all_together told.2.decoded wrong.other.decoded in
+        let md5 = rw body at told.1.body_md5 in
+        wrong.other.differs (wrong.other.tells 0 no_archive some ∙ sym (told.2.body_md5 0 no_archive some) ∙ md5 ∙ sym wrong.other.computes)
+
+    brought_or_strayed : (a b : ArchiveModel) → IsWanted wanted index bytes a → IsNext others a → AreRight wanted.policy (others ++ a ∷ []) → IsWanted wanted index bytes b → Strays wanted.policy others b → ⊥
+    brought_or_strayed a b is next right other strays =
+        elim (subst (Strays wanted.policy others) (one_archive bytes b a other.0 is.0) strays) [
+          | inl never ↦ never next
+          | inr wrong ↦ right_or_wrong a is next right wrong.1
+        ]
+
+    wanted_or_spoilt : (archive : ArchiveModel) (how : Spoil) → IsWanted wanted index bytes archive → IsSpoilOf (IsNamed wanted.name) wanted.policy wanted.stamp index bytes how → ⊥
+    wanted_or_spoilt archive how is spoils = asked_or_spoil law (IsNamed wanted.name) wanted.policy wanted.stamp index bytes archive is.0 is.1 how spoils
+
+    one_of : (a b : Meaning) → Brought a ⊎ (Strayed a ⊎ Spoilt a) → Brought b ⊎ (Strayed b ⊎ Spoilt b) → a ≡ b
+    one_of a b (inl x) (inl y) = x.1 ∙ ap Brings (one_archive bytes x.0 y.0 x.2.0 y.2.0) ∙ sym y.1
+    one_of a b (inl x) (inr (inl y)) = absurd (brought_or_strayed x.0 y.0 x.2 x.3 x.4 y.2 y.3)
+    one_of a b (inl x) (inr (inr y)) = absurd (wanted_or_spoilt x.0 y.0 x.2 y.2)
+    one_of a b (inr (inl x)) (inl y) = absurd (brought_or_strayed y.0 x.0 y.2 y.3 y.4 x.2 x.3)
+    one_of a b (inr (inl x)) (inr (inl y)) = x.1 ∙ sym y.1
+    one_of a b (inr (inl x)) (inr (inr y)) = absurd (wanted_or_spoilt x.0 y.0 x.2 y.2)
+    one_of a b (inr (inr x)) (inl y) = absurd (wanted_or_spoilt y.0 x.0 y.2 x.2)
+    one_of a b (inr (inr x)) (inr (inl y)) = absurd (wanted_or_spoilt y.0 x.0 y.2 x.2)
+    one_of a b (inr (inr x)) (inr (inr y)) =
+        x.1 ∙ ap (λ how. Misses (miss.Spoiled how)) (one_spoil_of law (IsNamed wanted.name) wanted.policy wanted.stamp index bytes x.0 y.0 x.2 y.2) ∙ sym y.1
+
+    one_read : (a b : Meaning) → IsRead wanted others index bytes a → IsRead wanted others index bytes b → a ≡ b
+    one_read a b x y = one_of a b (view a x) (view b y)
+
+-- ---- what answers mean
+
+module _ (wanted : Wanted) (others : List ArchiveModel) (index : ℕ) (together : AreTogether others) (a b : Meaning) where
+  one_fetched : (answer : Option Reply) → IsFetched wanted others index answer a → IsFetched wanted others index answer b → a ≡ b
+  one_fetched None x y = x ∙ sym y
+  one_fetched (Some reply.Synced) x y = x ∙ sym y
+  one_fetched (Some reply.Committed) x y = x ∙ sym y
+  one_fetched (Some (reply.Deleted existed)) x y = x ∙ sym y
+  one_fetched (Some (reply.Superseded floor)) x y = x ∙ sym y
+  one_fetched (Some reply.Missing) x y = x ∙ sym y
+  one_fetched (Some (reply.Held held)) x y = x ∙ sym y
+  one_fetched (Some (reply.Fragment bytes)) x y = one_read wanted others index bytes together a b x y
+  one_fetched (Some (reply.Gone held)) x y = x ∙ sym y
+  one_fetched (Some (reply.Spoiled how)) x y = x ∙ sym y
+  one_fetched (Some reply.Kept) x y = x ∙ sym y
+  one_fetched (Some reply.Removed) x y = x ∙ sym y
+  one_fetched (Some (reply.PartList parts)) x y = x ∙ sym y
+  one_fetched (Some (reply.SuffixList pairs)) x y = x ∙ sym y
+  one_fetched (Some (reply.PlaceList places)) x y = x ∙ sym y
+  one_fetched (Some reply.DiskFault) x y = x ∙ sym y
+  one_fetched (Some (reply.NoSpace need free)) x y = x ∙ sym y
+  one_fetched (Some reply.NoMemory) x y = x ∙ sym y
+
+module _ (begun : Begun) (turns : List Turn) (answer : Option Reply) where
+  one_meant : AreTogether (facts_in begun turns).archives → (msg : Msg) (a b : Meaning) → IsMeant begun turns msg answer a → IsMeant begun turns msg answer b → a ≡ b
+  one_meant together (message.Ask place) a b x y = x ∙ sym y
+  one_meant together (message.Fetch place stamp index) a b x y = one_fetched (wanted begun stamp) (facts_in begun turns).archives index together a b answer x y
+  one_meant together (message.PutFrag place stamp index bytes) a b x y = absurd x
+  one_meant together (message.Commit place stamp index) a b x y = absurd x
+  one_meant together (message.Delete place stamp) a b x y = absurd x
+  one_meant together (message.Remove place stamp index) a b x y = absurd x
+  one_meant together message.Parts a b x y = absurd x
+  one_meant together (message.Suffixes part) a b x y = absurd x
+  one_meant together (message.Places part) a b x y = absurd x
+
+-- ---- an archive that was brought
+
+-- it was sent, as a fragment
+pub record IsFragment (wanted : Wanted) (others : List ArchiveModel) (index : ℕ) (answer : Option Reply) (archive : ArchiveModel) : Type 0 where
+  pub bytes : List ℕ
+  pub given : answer ≡ Some (reply.Fragment bytes)
+  pub spelled : IsWanted wanted index bytes archive
+  pub next : IsNext others archive
+
+module _ (wanted : Wanted) (others : List ArchiveModel) (index : ℕ) (archive : ArchiveModel) where
+  pub fragment_of : (answer : Option Reply) → IsFetched wanted others index answer (Brings archive) → IsFragment wanted others index answer archive
+  fragment_of None is = absurd (cc)
+  fragment_of (Some reply.Synced) is = absurd (cc)
+  fragment_of (Some reply.Committed) is = absurd (cc)
+  fragment_of (Some (reply.Deleted existed)) is = absurd (cc)
+  fragment_of (Some (reply.Superseded floor)) is = absurd (cc)
+  fragment_of (Some reply.Missing) is = absurd (cc)
+  fragment_of (Some (reply.Held held)) is = absurd (cc)
+  fragment_of (Some (reply.Fragment bytes)) is = record { bytes = bytes; given = refl; spelled = is.0; next = is.1 }
+  fragment_of (Some (reply.Gone held)) is = absurd (cc)
+  fragment_of (Some (reply.Spoiled how)) is = absurd (cc)
+  fragment_of (Some reply.Kept) is = absurd (cc)
+  fragment_of (Some reply.Removed) is = absurd (cc)
+  fragment_of (Some (reply.PartList parts)) is = absurd (cc)
+  fragment_of (Some (reply.SuffixList pairs)) is = absurd (cc)
+  fragment_of (Some (reply.PlaceList places)) is = absurd (cc)
+  fragment_of (Some reply.DiskFault) is = absurd (cc)
+  fragment_of (Some (reply.NoSpace need free)) is = absurd (cc)
+  fragment_of (Some reply.NoMemory) is = absurd (cc)
+
+-- so it can stand beside those that were brought before it
+module _ (begun : Begun) (turns : List Turn) (archive : ArchiveModel) (answer : Option Reply) where
+  abbrev Beside : Type 0
+  Beside = IsSound archive × IsNext (facts_in begun turns).archives archive
+
+  brought_beside : (msg : Msg) → IsMeant begun turns msg answer (Brings archive) → Beside
+  brought_beside (message.Ask place) is = elim (asked_cases answer) [ inl lists ↦ absurd (cc (lists.1)) | inr misses ↦ absurd (cc (misses.1)) ]
+  brought_beside (message.Fetch place stamp index) is =
+      let sent = fragment_of (wanted begun stamp) (facts_in begun turns).archives index archive answer is in
+      (sent.spelled.0.sound, sent.next)
+  brought_beside (message.PutFrag place stamp index bytes) is = absurd is
+  brought_beside (message.Commit place stamp index) is = absurd is
+  brought_beside (message.Delete place stamp) is = absurd is
+  brought_beside (message.Remove place stamp index) is = absurd is
+  brought_beside message.Parts is = absurd is
+  brought_beside (message.Suffixes part) is = absurd is
+  brought_beside (message.Places part) is = absurd is
+
+-- ---- the archives of a round stand beside one another
+
+none_together : AreTogether []
+none_together = record {
+  sound = All-nil IsSound;
+  alike = λ i j d less within. absurd (omega arith);
+  distinct = λ i j d less within. absurd (omega arith);
+  few = All-nil (λ (archive : ArchiveModel). 0 ≤ archive.k);
+}
+
+module _ (begun : Begun) (turns : List Turn) where
+  abbrev round_after : Sent → Bool → Round
+  round_after sent b = if b then record { turns = Sends sent ∷ []; earlier = turns } else record { turns = Sends sent ∷ now begun turns; earlier = (round_in begun turns).earlier }
+
+  -- a message leaves them, or begins a round that has none
+  archives_sent : (sent : Sent) → AreTogether (facts_in begun turns).archives → AreTogether (facts_in begun (Sends sent ∷ turns)).archives
+  archives_sent sent together = by_first (is_first (all begun turns) sent.msg (round_in begun turns)) refl
+    where
+      by_first : (b : Bool) → is_first (all begun turns) sent.msg (round_in begun turns) ≡ b
+          → AreTogether (facts_of (round_after sent b).turns).archives
+      by_first true is = none_together
+      by_first false is = together
+
+  archives_heard : (sent : Sent) (answer : Option Reply) (meaning : Meaning) → IsMeant begun turns sent.msg answer meaning → AreTogether (facts_in begun turns).archives
+      → AreTogether (facts_in begun (Hears sent meaning ∷ turns)).archives
+  archives_heard sent answer (Brings archive) is together =
+      let beside = brought_beside begun turns archive answer sent.msg is in
+      AreTogether-push (facts_in begun turns).archives archive together beside.0 beside.1
+  archives_heard sent answer (Lists listing) is together = subst AreTogether (sym (append-nil (facts_in begun turns).archives)) together
+  archives_heard sent answer (Lacks listing) is together = subst AreTogether (sym (append-nil (facts_in begun turns).archives)) together
+  archives_heard sent answer (Misses how) is together = subst AreTogether (sym (append-nil (facts_in begun turns).archives)) together
+
+pub turns_together : (begun : Begun) (past : List Step) (turns : List Turn) → AreTurns begun past turns → AreTogether (facts_in begun turns).archives
+turns_together begun [] [] are = none_together
+turns_together begun [] (turn ∷ turns) are = absurd are
+turns_together begun (Gave sent ∷ past) [] are = absurd are
+turns_together begun (Gave sent ∷ past) (Sends same ∷ turns) are = archives_sent begun turns same (turns_together begun past turns are.1)
+turns_together begun (Gave sent ∷ past) (Hears same meaning ∷ turns) are = absurd are
+turns_together begun (Told sent answer ∷ past) [] are = absurd are
+turns_together begun (Told sent answer ∷ past) (Sends same ∷ turns) are = absurd are
+turns_together begun (Told sent answer ∷ past) (Hears same meaning ∷ turns) are =
+    archives_heard begun turns same answer meaning (subst (λ (one : Sent). IsMeant begun turns one.msg answer meaning) (sym are.0) are.1) (turns_together begun past turns are.2)
+
+-- ---- one list of turns
+
+pub one_turns : (begun : Begun) (past : List Step) (a b : List Turn) → AreTurns begun past a → AreTurns begun past b → a ≡ b
+one_turns begun [] [] [] x y = refl
+one_turns begun [] [] (turn ∷ b) x y = absurd y
+one_turns begun [] (turn ∷ a) b x y = absurd x
+one_turns begun (Gave sent ∷ past) (Sends one ∷ a) (Sends other ∷ b) x y = let rest = one_turns begun past a b x.1 y.1 in cc (x.0, y.0)
+one_turns begun (Gave sent ∷ past) [] b x y = absurd x
+one_turns begun (Gave sent ∷ past) (Hears one meaning ∷ a) b x y = absurd x
+one_turns begun (Gave sent ∷ past) (Sends one ∷ a) [] x y = absurd y
+one_turns begun (Gave sent ∷ past) (Sends one ∷ a) (Hears other meaning ∷ b) x y = absurd y
+one_turns begun (Told sent answer ∷ past) (Hears one meaning ∷ a) (Hears other meant ∷ b) x y =
+    let rest = one_turns begun past a b x.2 y.2 in
+    let first = subst (λ turns. IsMeant begun turns sent.msg answer meaning) rest x.1 in
+    let same = one_meant begun b answer (turns_together begun past b y.2) sent.msg meaning meant first y.1 in
+    cc (x.0, y.0)
+one_turns begun (Told sent answer ∷ past) [] b x y = absurd x
+one_turns begun (Told sent answer ∷ past) (Sends one ∷ a) b x y = absurd x
+one_turns begun (Told sent answer ∷ past) (Hears one meaning ∷ a) [] x y = absurd y
+one_turns begun (Told sent answer ∷ past) (Hears one meaning ∷ a) (Sends other ∷ b) x y = absurd y
