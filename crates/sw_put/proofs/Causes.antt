@@ -18,7 +18,7 @@ use Rattle.sw_message.specs.declared.target.Target.{Target}
 use Rattle.sw_quorum.specs.Answers.{done, floors, floors_from, forbidden_if, missed}
 use Rattle.sw_quorum.specs.Laws.{done-each, floor-stays, floors-each, floors-more, missed-each}
 use Rattle.sw_quorum.specs.declared.verdict.Verdict.TheVariants.{Done, Forbidden}
-use Rattle.sw_put.specs.Causes.{WasCommitted, WasMissed, WasStored, WasTold}
+use Rattle.sw_put.specs.Causes.{WasCommitted, WasMissed, WasNotCommitted, WasStored, WasTold}
 use Rattle.sw_put.specs.Put.{Begun, IsBegun, IsNext, commit_verdict, commits, judge_commit, judge_store, put_message, store_verdict, stores}
 use Rattle.sw_put.specs.declared.errand.Errand.{Errand}
 use Rattle.sw_put.specs.declared.errand.Errand.TheVariants.{CommitAt, StoreAt}
@@ -91,6 +91,7 @@ module _ (begun : Begun) where
   pub record AreTold (past : List Step) : Type 0 where
     pub misses : All (λ (one : Target × Miss). WasMissed begun past one.0 one.1) (missed (stores past))
     pub made : All (IsMade past) (done (commits past))
+    pub unmade : All (λ (one : Target × Miss). WasNotCommitted begun past one.0 one.1) (missed (commits past))
     pub of_stores : All (WasTold begun past) (floors (stores past))
     pub of_commits : All (WasTold begun past) (floors (commits past))
 
@@ -99,6 +100,11 @@ module _ (begun : Begun) where
     stay-misses misses all =
         All-weaker (λ (one : Target × Miss). WasMissed begun past one.0 one.1) (λ (one : Target × Miss). WasMissed begun (step ∷ past) one.0 one.1)
         (λ one was. (was.0, was.1, Contains-cons (Told (put_message begun was.0 (StoreAt one.0)) was.1) step past was.2, was.3)) misses all
+
+    stay-unmade : (misses : List (Target × Miss)) → All (λ (one : Target × Miss). WasNotCommitted begun past one.0 one.1) misses → All (λ (one : Target × Miss). WasNotCommitted begun (step ∷ past) one.0 one.1) misses
+    stay-unmade misses all =
+        All-weaker (λ (one : Target × Miss). WasNotCommitted begun past one.0 one.1) (λ (one : Target × Miss). WasNotCommitted begun (step ∷ past) one.0 one.1)
+        (λ one was. (was.0, was.1, Contains-cons (Told (put_message begun was.0 (CommitAt one.0)) was.1) step past was.2, was.3)) misses all
 
     stay-made : (targets : List Target) → All (IsMade past) targets → All (IsMade (step ∷ past)) targets
     stay-made targets all =
@@ -126,6 +132,7 @@ module _ (begun : Begun) where
         misses = missed-each (λ (one : Target × Miss). WasMissed begun (step ∷ past) one.0 one.1) (stores past) target verdict
             (λ miss is. (ticket, answer, (zero, omega arith, refl), is)) (stay-misses past step (missed (stores past)) before.misses);
         made = All-same (IsMade (step ∷ past)) _ _ (ap done (append-nil (commits past))) (stay-made past step (done (commits past)) before.made);
+        unmade = All-same (λ (one : Target × Miss). WasNotCommitted begun (step ∷ past) one.0 one.1) _ _ (ap missed (append-nil (commits past))) (stay-unmade past step (missed (commits past)) before.unmade);
         of_stores = floors-each (WasTold begun (step ∷ past)) (stores past) target verdict
             (λ floor is. told-by past (put_message begun ticket (StoreAt target)) answer floor (refused-store begun.stamp answer floor is)) (stay-told past step (floors (stores past)) before.of_stores);
         of_commits = All-same (WasTold begun (step ∷ past)) _ _ (ap floors (append-nil (commits past))) (stay-told past step (floors (commits past)) before.of_commits);
@@ -141,18 +148,21 @@ module _ (begun : Begun) where
               (fit.0.1.0, Contains-cons (Told (put_message begun fit.0.1.0 (StoreAt target)) (Some reply.Synced)) step past fit.0.1.1),
               (ticket, (zero, omega arith, ap (λ answer. Told (put_message begun ticket (CommitAt target)) answer) (committed begun.stamp answer is))),
             )) (stay-made past step (done (commits past)) before.made);
+        unmade = missed-each (λ (one : Target × Miss). WasNotCommitted begun (step ∷ past) one.0 one.1) (commits past) target verdict
+            (λ miss is. (ticket, answer, (zero, omega arith, refl), is)) (stay-unmade past step (missed (commits past)) before.unmade);
         of_stores = All-same (WasTold begun (step ∷ past)) _ _ (ap floors (append-nil (stores past))) (stay-told past step (floors (stores past)) before.of_stores);
         of_commits = floors-each (WasTold begun (step ∷ past)) (commits past) target verdict
             (λ floor is. told-by past (put_message begun ticket (CommitAt target)) answer floor (refused-commit begun.stamp answer floor is)) (stay-told past step (floors (commits past)) before.of_commits);
       }
 
   pub told-all : IsBegun begun → (past : List Step) → IsRun (IsNext begun) past → AreTold past
-  told-all valid [] run = record { misses = All-nil _; made = All-nil _; of_stores = All-nil _; of_commits = All-nil _ }
+  told-all valid [] run = record { misses = All-nil _; made = All-nil _; unmade = All-nil _; of_stores = All-nil _; of_commits = All-nil _ }
   told-all valid (Gave sent ∷ past) run =
       let before = told-all valid past run.1 in
       record {
         misses = stay-misses past (Gave sent) (missed (stores past)) before.misses;
         made = stay-made past (Gave sent) (done (commits past)) before.made;
+        unmade = stay-unmade past (Gave sent) (missed (commits past)) before.unmade;
         of_stores = stay-told past (Gave sent) (floors (stores past)) before.of_stores;
         of_commits = stay-told past (Gave sent) (floors (commits past)) before.of_commits;
       }
