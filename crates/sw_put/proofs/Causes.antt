@@ -1,5 +1,5 @@
 -- What every transcript of a put tells of its causes.
-use Rattle.std.proofs.Common.{◌≡◌, ◌⊎◌, inl, inr, ℕ, zero, suc, Bool, true, false, ◌&&◌, eqb, ltb, List, [], ◌∷◌, ◌++◌, append-nil, Contains, Option, Some, None, refl, sym, ap, subst, ◌∙◌, arith}
+use Rattle.std.proofs.Common.{◌≡◌, ◌⊎◌, inl, inr, ℕ, zero, suc, true, ◌&&◌, eqb, ltb, List, [], ◌∷◌, ◌++◌, append-nil, Contains, Option, Some, None, refl, sym, ap, subst, ◌∙◌, arith}
 use Rattle.std.specs.List.{All}
 use Rattle.std.proofs.lemmas.Bool.{and_from, and_parts, eq-eqb, eqb-true, lt-ltb, ltb-true, or_cases, or_left, or_right}
 use Rattle.std.proofs.lemmas.List.Elements.{All-nil, All-same, All-weaker, Contains-push}
@@ -17,6 +17,7 @@ use Rattle.sw_message.specs.declared.sent.Sent.{Sent}
 use Rattle.sw_message.specs.declared.target.Target.{Target}
 use Rattle.sw_quorum.specs.Answers.{done, floors, floors_from, forbidden_if, missed}
 use Rattle.sw_quorum.specs.Laws.{done-each, floor-stays, floors-each, floors-more, missed-each}
+use Rattle.sw_quorum.specs.Refusals.{IsRefusal, not-done, refusal}
 use Rattle.sw_quorum.specs.declared.verdict.Verdict.TheVariants.{Done, Forbidden}
 use Rattle.sw_put.specs.Causes.{WasCommitted, WasMissed, WasNotCommitted, WasStored, WasTold}
 use Rattle.sw_put.specs.Put.{Begun, IsBegun, IsNext, commit_verdict, commits, judge_commit, judge_store, put_message, store_verdict, stores}
@@ -45,32 +46,19 @@ is_above floor stamp (inr level) =
 
 -- ---- what verdicts are of
 
-forbidden-by : (b : Bool) (told floor : Floor) → forbidden_if b told ≡ Forbidden floor → (b ≡ true) × (told ≡ floor)
-forbidden-by true told floor is = (refl, cc)
-forbidden-by false told floor is = absurd (cc)
+abbrev Refuses : ℕ → Option Reply → Floor → Type 0
+Refuses stamp = IsRefusal (λ floor. stands_above floor stamp)
 
-not-done : (b : Bool) (floor : Floor) → forbidden_if b floor ≡ Done → ⊥
-not-done true floor is = cc
-not-done false floor is = cc
-
-abbrev IsRefusal : ℕ → Option Reply → Floor → Type 0
-IsRefusal stamp answer floor = (answer ≡ Some (reply.Superseded floor)) × (stands_above floor stamp ≡ true)
-
-refusal : (stamp : ℕ) (told floor : Floor) → forbidden_if (stands_above told stamp) told ≡ Forbidden floor → IsRefusal stamp (Some (reply.Superseded told)) floor
-refusal stamp told floor is =
-    let known = forbidden-by (stands_above told stamp) told floor is in
-    (ap (λ floor. Some (reply.Superseded floor)) known.1, ap (λ floor. stands_above floor stamp) (sym known.1) ∙ known.0)
-
-refused-store : (stamp : ℕ) (answer : Option Reply) (floor : Floor) → store_verdict stamp answer ≡ Forbidden floor → IsRefusal stamp answer floor
+refused-store : (stamp : ℕ) (answer : Option Reply) (floor : Floor) → store_verdict stamp answer ≡ Forbidden floor → Refuses stamp answer floor
 refused-store stamp None floor is = absurd (cc)
 refused-store stamp (Some reply.Synced) floor is = absurd (cc)
-refused-store stamp (Some (reply.Superseded told)) floor is = refusal stamp told floor is
+refused-store stamp (Some (reply.Superseded told)) floor is = refusal (λ floor. stands_above floor stamp) told floor is
 refused-store stamp (Some other) floor is = absurd (cc)
 
-refused-commit : (stamp : ℕ) (answer : Option Reply) (floor : Floor) → commit_verdict stamp answer ≡ Forbidden floor → IsRefusal stamp answer floor
+refused-commit : (stamp : ℕ) (answer : Option Reply) (floor : Floor) → commit_verdict stamp answer ≡ Forbidden floor → Refuses stamp answer floor
 refused-commit stamp None floor is = absurd (cc)
 refused-commit stamp (Some reply.Committed) floor is = absurd (cc)
-refused-commit stamp (Some (reply.Superseded told)) floor is = refusal stamp told floor is
+refused-commit stamp (Some (reply.Superseded told)) floor is = refusal (λ floor. stands_above floor stamp) told floor is
 refused-commit stamp (Some reply.Missing) floor is = absurd (cc)
 refused-commit stamp (Some other) floor is = absurd (cc)
 
@@ -121,7 +109,7 @@ module _ (begun : Begun) where
         (λ floor was. ((was.0.0, Contains-cons (Told was.0.0 (Some (reply.Superseded floor))) step past was.0.1), was.1)) told all
 
   -- the floor of an answer was told of
-  told-by : (past : List Step) (sent : Sent) (answer : Option Reply) (floor : Floor) → IsRefusal begun.stamp answer floor → WasTold begun (Told sent answer ∷ past) floor
+  told-by : (past : List Step) (sent : Sent) (answer : Option Reply) (floor : Floor) → Refuses begun.stamp answer floor → WasTold begun (Told sent answer ∷ past) floor
   told-by past sent answer floor is = ((sent, (zero, omega arith, ap (λ answer. Told sent answer) is.0)), stands floor begun.stamp is.1)
 
   told-more : (past : List Step) (ticket : ℕ) (errand : Errand) (answer : Option Reply) → AreTold past → Fits begun past errand → AreTold (Told (put_message begun ticket errand) answer ∷ past)

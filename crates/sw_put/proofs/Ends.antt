@@ -21,7 +21,8 @@ use Rattle.sw_quorum.specs.Answers.{Judged, done, floors, missed}
 use Rattle.sw_quorum.specs.DueLaws as laws
 use Rattle.sw_quorum.specs.Laws.{none-forbidden, parts, sum-ones}
 use Rattle.sw_quorum.specs.Lookups.{slice_get-behind}
-use Rattle.sw_quorum.specs.Places.{apart-from_once, one_if, some-counted}
+use Rattle.sw_quorum.specs.Places.{apart-from_once, counted-among, one_if, some-counted, some-passing}
+use Rattle.sw_quorum.specs.Quorums.{quorums}
 use Rattle.sw_put.specs.Causes.{AreMany, IsCreated, IsSuperseded, IsTooFewCommits, IsTooFewSynced, WasCommitted, WasMissed, WasNotCommitted, WasStored, WasTold}
 use Rattle.sw_put.specs.Plans.{replacement}
 use Rattle.sw_put.specs.Put.{Begun, IsBegun, IsNext, commits, commits_due, committed_end, due, end_at, handoffs, misses, place_of, primaries, put_end, put_message, put_next, replacements, settled_end, stores, stores_due, targets_from, too_few_commits}
@@ -31,10 +32,9 @@ use Rattle.sw_put.specs.declared.errand.Errand.TheVariants.{StoreAt}
 use Rattle.sw_put.proofs.Causes.{IsMade, counted, told-all}
 use Rattle.sw_put.proofs.Dues.{commits_due_by, length-stores_due, replacement-at, store-at, stores_due_by}
 use Rattle.sw_put.proofs.Homes.{IsFit, known}
-use Rattle.sw_put.proofs.Quorums.{quorums}
 use Rattle.sw_put.proofs.Transcripts.{commits-balance, counts_as, ended, grew, over-all, over-closed, own, stores-balance}
 use Rattle.sw_put.proofs.Warrants.{device-once, index-once, indices-apart}
-use Rattle.sw_put.proofs.Weights.{commit_weight, counted-among, has_device, has_index, is_target, primary-there, same_target, some-passing, store_weight, target_is_itself}
+use Rattle.sw_put.proofs.Weights.{commit_weight, has_device, has_index, is_target, primary-there, same_target, store_weight, target_is_itself}
 
 -- ---- quorums
 
@@ -192,6 +192,7 @@ module _ (begun : Begun) (past : List Step) (valid : IsBegun begun) (run : IsRun
       let all = (told-all begun valid past run).made in
       record {
         own = own;
+        counted = number;
         enough = omega (arith, number, many);
         targets = done (commits past);
         many = record { counted = sym number; indices = made-many.indices };
@@ -329,6 +330,7 @@ module _ (begun : Begun) (past : List Step) (valid : IsBegun begun) (run : IsRun
       let list : told ≡ misses (commits past) = cc in
       let device_miss : Target × Miss → ℕ × Miss = λ one. (one.0.device, one.1) in
       record {
+        counted = number;
         few = omega (arith, number, few);
         no_floor = no_told none no_floor;
         enough = enough;

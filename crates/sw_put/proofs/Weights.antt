@@ -1,9 +1,8 @@
 -- What is due, answered and open of a put, however it is counted.
-use Rattle.std.proofs.Common.{◌≡◌, inl, inr, ℕ, zero, suc, ◌+◌, ◌≤◌, ◌<◌, ◌==◌, Bool, true, ◌&&◌, cond, List, [], ◌∷◌, Contains, length, map, Option, refl, ap, ◌∙◌, arith}
-use Rattle.std.specs.List.{count_by, sum_by}
+use Rattle.std.proofs.Common.{◌≡◌, inl, inr, ℕ, ◌+◌, ◌≤◌, ◌<◌, ◌==◌, Bool, true, ◌&&◌, cond, List, [], ◌∷◌, length, map, Option, refl, ap, ◌∙◌, arith}
+use Rattle.std.specs.List.{sum_by}
 use Rattle.std.proofs.lemmas.Bool.{and_from, and_parts, cases_Bool, eq-eqb, eqb-false, eqb-true, ne_eqb}
 use Rattle.std.proofs.lemmas.List.Sums.{sum_by-cons}
-use Rattle.sw_ring.proofs.Among.{Contains-cons}
 use Rattle.sw_message.specs.declared.message.Msg.{Msg}
 use Rattle.sw_message.specs.declared.message.Msg.TheVariants as message
 use Rattle.sw_message.specs.declared.miss.Miss.{Miss}
@@ -159,20 +158,3 @@ same_target one target is =
     let same = and_parts (target.index == one.index) (target.device == one.device) is in
     ap (λ n. record { index = n; device = target.device }) (eqb-true target.index one.index same.0)
     ∙ ap (λ n. record { index = one.index; device = n }) (eqb-true target.device one.device same.1)
-
--- what passes a test is counted
-pub counted-among : {A : Type 0} (test : A → Bool) (xs : List A) (x : A) → test x ≡ true → Contains xs x → 0 < count_by test xs
-counted-among test [] x passes (i, within, is) = absurd (omega (arith, within))
-counted-among test (first ∷ xs) x passes (zero, within, is) = omega (arith, sum_by-cons (λ y. cond (test y) 1 0) first xs, ap one_if (ap test is ∙ passes))
-counted-among test (first ∷ xs) x passes (suc i, within, is) =
-    omega (arith, sum_by-cons (λ y. cond (test y) 1 0) first xs, counted-among test xs x passes (i, omega (arith, within), is))
-
--- and what is counted passes it
-pub some-passing : {A : Type 0} (test : A → Bool) (xs : List A) → 0 < count_by test xs → (x : A) × Contains xs x × (test x ≡ true)
-some-passing test [] some = absurd (omega (arith, some))
-some-passing test (x ∷ xs) some = elim (cases_Bool (test x)) [
-  | inl is ↦ (x, (zero, omega arith, refl), is)
-  | inr other ↦
-      let later = some-passing test xs (omega (arith, some, ap one_if other, sum_by-cons (λ y. cond (test y) 1 0) x xs)) in
-      (later.0, Contains-cons later.0 x xs later.1, later.2)
-]

@@ -29,7 +29,7 @@ abbrev pub WasMissed : Begun → List Step → Target → Miss → Type 0
 WasMissed begun past target miss =
     (ticket : ℕ) × (answer : Option Reply) × Contains past (Told (put_message begun ticket (StoreAt target)) answer) × (store_verdict begun.stamp answer ≡ Missed miss)
 
--- its answer to the commit was one
+-- its answer to the commit, or that there was none, was a miss
 abbrev pub WasNotCommitted : Begun → List Step → Target → Miss → Type 0
 WasNotCommitted begun past target miss =
     (ticket : ℕ) × (answer : Option Reply) × Contains past (Told (put_message begun ticket (CommitAt target)) answer) × (commit_verdict begun.stamp answer ≡ Missed miss)
@@ -51,6 +51,7 @@ pub record AreMany (count : ℕ) (targets : List Target) : Type 0 where
 
 pub record IsCreated (begun : Begun) (past : List Step) (stamp count : ℕ) : Type 0 where
   pub own : stamp ≡ begun.stamp
+  pub counted : count ≡ length (done (commits past))
   pub enough : begun.cluster.policy.c ≤ count
   pub targets : List Target
   pub many : AreMany count targets
@@ -78,6 +79,7 @@ pub record IsTooFewSynced (begun : Begun) (past : List Step) (have : ℕ) (misse
   pub misses_are : missed ≡ misses (stores past)
 
 pub record IsTooFewCommits (begun : Begun) (past : List Step) (have : ℕ) (missed : List (ℕ × Miss)) : Type 0 where
+  pub counted : have ≡ length (done (commits past))
   pub few : have < begun.cluster.policy.c
   pub no_floor : (floor : Floor) → WasTold begun past floor → ⊥
   pub enough : begun.cluster.policy.q ≤ length (done (stores past))
