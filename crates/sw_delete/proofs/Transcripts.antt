@@ -1,12 +1,16 @@
 -- What every transcript of a delete keeps.
-use Rattle.std.proofs.Common.{◌≡◌, ℕ, ◌+◌, ◌≤◌, List, length, Option, Some, refl, ap, arith}
+use Rattle.std.proofs.Common.{◌≡◌, ℕ, ◌+◌, ◌≤◌, List, drop, length, Option, Some, refl, ap, arith}
+use Rattle.std.specs.List.{sum_by}
 use Rattle.std.proofs.lemmas.Option.{none-some}
 use Rattle.sw_message.specs.Transcript.{Hand, IsRun, Next, Over, Step, Wait, given, open_at, opens}
+use Rattle.sw_message.specs.declared.message.Msg.{Msg}
+use Rattle.sw_message.specs.declared.message.Msg.TheVariants.{Delete}
 use Rattle.sw_message.specs.declared.reply.Reply.{Reply}
 use Rattle.sw_message.specs.declared.sent.Sent.{Sent}
+use Rattle.sw_quorum.specs.Answers.{Judged}
 use Rattle.sw_quorum.specs.DueLaws as laws
 use Rattle.sw_quorum.specs.Dues.{IsDue}
-use Rattle.sw_quorum.specs.Transcripts.{judged-once, told_count}
+use Rattle.sw_quorum.specs.Transcripts.{answers-weigh, judged-once, told_count}
 use Rattle.sw_delete.specs.Delete.{Begun, IsNext, delete_end, delete_message, delete_next, deletes, due, end_at, judge_delete}
 use Rattle.sw_delete.specs.declared.end.DeleteEnd.{DeleteEnd}
 use Rattle.sw_delete.proofs.Dues.{grew}
@@ -22,6 +26,18 @@ ended begun past end is = ended_or begun past (delete_next begun past) end is
 -- a message of a delete, to the device that is due at its ticket
 abbrev pub IsDelete : Begun → List Step → Sent → Type 0
 IsDelete begun past = IsDue (delete_message begun) (due begun past)
+
+-- what a message counts, by its device
+abbrev pub weight_of : (ℕ → ℕ) → ℕ → Msg → ℕ
+weight_of w device (Delete place stamp) = w device
+weight_of w device other = 0
+
+abbrev pub counts_as : (ℕ → ℕ) → Sent → ℕ
+counts_as w sent = weight_of w sent.device sent.msg
+
+judged-weight : (w : ℕ → ℕ) (device : ℕ) (msg : Msg) (answer : Option Reply) → sum_by (λ (one : Judged ℕ). w one.about) (judge_delete device msg answer) ≡ weight_of w device msg
+judged-weight w device (Delete place stamp) answer = omega arith
+judged-weight w device other answer = refl
 
 module _ (begun : Begun) where
   own : (ticket device : ℕ) → (delete_message begun ticket device).ticket ≡ ticket
@@ -46,3 +62,14 @@ module _ (begun : Begun) where
 
   pub given-within : (past : List Step) → IsRun (IsNext begun) past → length (given past) ≤ length (due begun past)
   given-within past run = laws.given-within (delete_message begun) own (due begun) past run (grew begun past)
+
+  -- ---- what was answered, is open, or is still to be handed out
+
+  pub balance : (past : List Step) → IsRun (IsNext begun) past → (w : ℕ → ℕ)
+      → sum_by (λ (one : Judged ℕ). w one.about) (deletes past) + sum_by (counts_as w) (opens past) + sum_by w (drop (length (given past)) (due begun past)) ≡ sum_by w (due begun past)
+  balance past run w =
+      omega (
+        arith,
+        laws.spent (delete_message begun) own (due begun) (counts_as w) w (λ ticket device. refl) past run (grew begun past),
+        answers-weigh (λ sent answer. judge_delete sent.device sent.msg answer) w (counts_as w) (λ sent answer. judged-weight w sent.device sent.msg answer) past,
+      )

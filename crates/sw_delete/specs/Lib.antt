@@ -1,3 +1,4 @@
+pub mod Causes
 pub mod Delete
 pub mod Inside
 pub mod Standing

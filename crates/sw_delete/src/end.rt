@@ -13,7 +13,7 @@ pub enum DeleteEnd {
         marks: u32,
         existed: bool,
     },
-    /// A floor is newer than its stamp.
+    /// A floor forbids it: the greatest that was told.
     Superseded {
         floor: Floor,
     },

@@ -1,5 +1,5 @@
 -- What every transcript of a put tells of its causes.
-use Rattle.std.proofs.Common.{◌≡◌, ◌⊎◌, inl, inr, ℕ, zero, suc, Bool, true, false, ◌&&◌, eqb, ltb, List, [], ◌∷◌, ◌++◌, append-nil, Contains, Option, Some, None, refl, sym, ap, subst, ◌∙◌, arith}
+use Rattle.std.proofs.Common.{◌≡◌, ◌⊎◌, inl, inr, ℕ, zero, suc, true, ◌&&◌, eqb, ltb, List, [], ◌∷◌, ◌++◌, append-nil, Contains, Option, Some, None, refl, sym, ap, subst, ◌∙◌, arith}
 use Rattle.std.specs.List.{All}
 use Rattle.std.proofs.lemmas.Bool.{and_from, and_parts, eq-eqb, eqb-true, lt-ltb, ltb-true, or_cases, or_left, or_right}
 use Rattle.std.proofs.lemmas.List.Elements.{All-nil, All-same, All-weaker, Contains-push}
@@ -17,8 +17,9 @@ use Rattle.sw_message.specs.declared.sent.Sent.{Sent}
 use Rattle.sw_message.specs.declared.target.Target.{Target}
 use Rattle.sw_quorum.specs.Answers.{done, floors, floors_from, forbidden_if, missed}
 use Rattle.sw_quorum.specs.Laws.{done-each, floor-stays, floors-each, floors-more, missed-each}
+use Rattle.sw_quorum.specs.Refusals.{IsRefusal, not-done, refusal}
 use Rattle.sw_quorum.specs.declared.verdict.Verdict.TheVariants.{Done, Forbidden}
-use Rattle.sw_put.specs.Causes.{WasCommitted, WasMissed, WasStored, WasTold}
+use Rattle.sw_put.specs.Causes.{WasCommitted, WasMissed, WasNotCommitted, WasStored, WasTold}
 use Rattle.sw_put.specs.Put.{Begun, IsBegun, IsNext, commit_verdict, commits, judge_commit, judge_store, put_message, store_verdict, stores}
 use Rattle.sw_put.specs.declared.errand.Errand.{Errand}
 use Rattle.sw_put.specs.declared.errand.Errand.TheVariants.{CommitAt, StoreAt}
@@ -45,32 +46,19 @@ is_above floor stamp (inr level) =
 
 -- ---- what verdicts are of
 
-forbidden-by : (b : Bool) (told floor : Floor) → forbidden_if b told ≡ Forbidden floor → (b ≡ true) × (told ≡ floor)
-forbidden-by true told floor is = (refl, cc)
-forbidden-by false told floor is = absurd (cc)
+abbrev Refuses : ℕ → Option Reply → Floor → Type 0
+Refuses stamp = IsRefusal (λ floor. stands_above floor stamp)
 
-not-done : (b : Bool) (floor : Floor) → forbidden_if b floor ≡ Done → ⊥
-not-done true floor is = cc
-not-done false floor is = cc
-
-abbrev IsRefusal : ℕ → Option Reply → Floor → Type 0
-IsRefusal stamp answer floor = (answer ≡ Some (reply.Superseded floor)) × (stands_above floor stamp ≡ true)
-
-refusal : (stamp : ℕ) (told floor : Floor) → forbidden_if (stands_above told stamp) told ≡ Forbidden floor → IsRefusal stamp (Some (reply.Superseded told)) floor
-refusal stamp told floor is =
-    let known = forbidden-by (stands_above told stamp) told floor is in
-    (ap (λ floor. Some (reply.Superseded floor)) known.1, ap (λ floor. stands_above floor stamp) (sym known.1) ∙ known.0)
-
-refused-store : (stamp : ℕ) (answer : Option Reply) (floor : Floor) → store_verdict stamp answer ≡ Forbidden floor → IsRefusal stamp answer floor
+refused-store : (stamp : ℕ) (answer : Option Reply) (floor : Floor) → store_verdict stamp answer ≡ Forbidden floor → Refuses stamp answer floor
 refused-store stamp None floor is = absurd (cc)
 refused-store stamp (Some reply.Synced) floor is = absurd (cc)
-refused-store stamp (Some (reply.Superseded told)) floor is = refusal stamp told floor is
+refused-store stamp (Some (reply.Superseded told)) floor is = refusal (λ floor. stands_above floor stamp) told floor is
 refused-store stamp (Some other) floor is = absurd (cc)
 
-refused-commit : (stamp : ℕ) (answer : Option Reply) (floor : Floor) → commit_verdict stamp answer ≡ Forbidden floor → IsRefusal stamp answer floor
+refused-commit : (stamp : ℕ) (answer : Option Reply) (floor : Floor) → commit_verdict stamp answer ≡ Forbidden floor → Refuses stamp answer floor
 refused-commit stamp None floor is = absurd (cc)
 refused-commit stamp (Some reply.Committed) floor is = absurd (cc)
-refused-commit stamp (Some (reply.Superseded told)) floor is = refusal stamp told floor is
+refused-commit stamp (Some (reply.Superseded told)) floor is = refusal (λ floor. stands_above floor stamp) told floor is
 refused-commit stamp (Some reply.Missing) floor is = absurd (cc)
 refused-commit stamp (Some other) floor is = absurd (cc)
 
@@ -91,6 +79,7 @@ module _ (begun : Begun) where
   pub record AreTold (past : List Step) : Type 0 where
     pub misses : All (λ (one : Target × Miss). WasMissed begun past one.0 one.1) (missed (stores past))
     pub made : All (IsMade past) (done (commits past))
+    pub unmade : All (λ (one : Target × Miss). WasNotCommitted begun past one.0 one.1) (missed (commits past))
     pub of_stores : All (WasTold begun past) (floors (stores past))
     pub of_commits : All (WasTold begun past) (floors (commits past))
 
@@ -99,6 +88,11 @@ module _ (begun : Begun) where
     stay-misses misses all =
         All-weaker (λ (one : Target × Miss). WasMissed begun past one.0 one.1) (λ (one : Target × Miss). WasMissed begun (step ∷ past) one.0 one.1)
         (λ one was. (was.0, was.1, Contains-cons (Told (put_message begun was.0 (StoreAt one.0)) was.1) step past was.2, was.3)) misses all
+
+    stay-unmade : (misses : List (Target × Miss)) → All (λ (one : Target × Miss). WasNotCommitted begun past one.0 one.1) misses → All (λ (one : Target × Miss). WasNotCommitted begun (step ∷ past) one.0 one.1) misses
+    stay-unmade misses all =
+        All-weaker (λ (one : Target × Miss). WasNotCommitted begun past one.0 one.1) (λ (one : Target × Miss). WasNotCommitted begun (step ∷ past) one.0 one.1)
+        (λ one was. (was.0, was.1, Contains-cons (Told (put_message begun was.0 (CommitAt one.0)) was.1) step past was.2, was.3)) misses all
 
     stay-made : (targets : List Target) → All (IsMade past) targets → All (IsMade (step ∷ past)) targets
     stay-made targets all =
@@ -115,7 +109,7 @@ module _ (begun : Begun) where
         (λ floor was. ((was.0.0, Contains-cons (Told was.0.0 (Some (reply.Superseded floor))) step past was.0.1), was.1)) told all
 
   -- the floor of an answer was told of
-  told-by : (past : List Step) (sent : Sent) (answer : Option Reply) (floor : Floor) → IsRefusal begun.stamp answer floor → WasTold begun (Told sent answer ∷ past) floor
+  told-by : (past : List Step) (sent : Sent) (answer : Option Reply) (floor : Floor) → Refuses begun.stamp answer floor → WasTold begun (Told sent answer ∷ past) floor
   told-by past sent answer floor is = ((sent, (zero, omega arith, ap (λ answer. Told sent answer) is.0)), stands floor begun.stamp is.1)
 
   told-more : (past : List Step) (ticket : ℕ) (errand : Errand) (answer : Option Reply) → AreTold past → Fits begun past errand → AreTold (Told (put_message begun ticket errand) answer ∷ past)
@@ -126,6 +120,7 @@ module _ (begun : Begun) where
         misses = missed-each (λ (one : Target × Miss). WasMissed begun (step ∷ past) one.0 one.1) (stores past) target verdict
             (λ miss is. (ticket, answer, (zero, omega arith, refl), is)) (stay-misses past step (missed (stores past)) before.misses);
         made = All-same (IsMade (step ∷ past)) _ _ (ap done (append-nil (commits past))) (stay-made past step (done (commits past)) before.made);
+        unmade = All-same (λ (one : Target × Miss). WasNotCommitted begun (step ∷ past) one.0 one.1) _ _ (ap missed (append-nil (commits past))) (stay-unmade past step (missed (commits past)) before.unmade);
         of_stores = floors-each (WasTold begun (step ∷ past)) (stores past) target verdict
             (λ floor is. told-by past (put_message begun ticket (StoreAt target)) answer floor (refused-store begun.stamp answer floor is)) (stay-told past step (floors (stores past)) before.of_stores);
         of_commits = All-same (WasTold begun (step ∷ past)) _ _ (ap floors (append-nil (commits past))) (stay-told past step (floors (commits past)) before.of_commits);
@@ -141,18 +136,21 @@ module _ (begun : Begun) where
               (fit.0.1.0, Contains-cons (Told (put_message begun fit.0.1.0 (StoreAt target)) (Some reply.Synced)) step past fit.0.1.1),
               (ticket, (zero, omega arith, ap (λ answer. Told (put_message begun ticket (CommitAt target)) answer) (committed begun.stamp answer is))),
             )) (stay-made past step (done (commits past)) before.made);
+        unmade = missed-each (λ (one : Target × Miss). WasNotCommitted begun (step ∷ past) one.0 one.1) (commits past) target verdict
+            (λ miss is. (ticket, answer, (zero, omega arith, refl), is)) (stay-unmade past step (missed (commits past)) before.unmade);
         of_stores = All-same (WasTold begun (step ∷ past)) _ _ (ap floors (append-nil (stores past))) (stay-told past step (floors (stores past)) before.of_stores);
         of_commits = floors-each (WasTold begun (step ∷ past)) (commits past) target verdict
             (λ floor is. told-by past (put_message begun ticket (CommitAt target)) answer floor (refused-commit begun.stamp answer floor is)) (stay-told past step (floors (commits past)) before.of_commits);
       }
 
   pub told-all : IsBegun begun → (past : List Step) → IsRun (IsNext begun) past → AreTold past
-  told-all valid [] run = record { misses = All-nil _; made = All-nil _; of_stores = All-nil _; of_commits = All-nil _ }
+  told-all valid [] run = record { misses = All-nil _; made = All-nil _; unmade = All-nil _; of_stores = All-nil _; of_commits = All-nil _ }
   told-all valid (Gave sent ∷ past) run =
       let before = told-all valid past run.1 in
       record {
         misses = stay-misses past (Gave sent) (missed (stores past)) before.misses;
         made = stay-made past (Gave sent) (done (commits past)) before.made;
+        unmade = stay-unmade past (Gave sent) (missed (commits past)) before.unmade;
         of_stores = stay-told past (Gave sent) (floors (stores past)) before.of_stores;
         of_commits = stay-told past (Gave sent) (floors (commits past)) before.of_commits;
       }

@@ -1,7 +1,7 @@
 -- Why a put ended as it did.
 use Rattle.std.proofs.Common.{◌≡◌, ◌⊎◌, inl, inr, ⊎_elim, ℕ, ◌+◌, ◌≤◌, ◌<◌, Bool, true, false, not, ◌&&◌, ◌||◌, if◌then◌else◌, List, [], drop, get_or, length, Contains, Option, Some, None, is_some, refl, sym, ap, subst, ◌∙◌, arith}
 use Rattle.std.specs.Prelude.{nat_lt}
-use Rattle.std.specs.List.{slice_get, sum_by}
+use Rattle.std.specs.List.{count_by, slice_get, sum_by}
 use Rattle.std.proofs.lemmas.Bool.{and_from, and_right, cases_lt, cond-false, cond-true, cond_both, le-ltb, lt-ltb, ltb-false, ltb-true, or_from, or_left, or_right}
 use Rattle.std.proofs.lemmas.List.{drop_all, length-map, nil_from_length}
 use Rattle.std.proofs.lemmas.List.Elements.{All-contains, All-weaker}
@@ -21,8 +21,9 @@ use Rattle.sw_quorum.specs.Answers.{Judged, done, floors, missed}
 use Rattle.sw_quorum.specs.DueLaws as laws
 use Rattle.sw_quorum.specs.Laws.{none-forbidden, parts, sum-ones}
 use Rattle.sw_quorum.specs.Lookups.{slice_get-behind}
-use Rattle.sw_quorum.specs.Places.{apart-from_once, some-counted}
-use Rattle.sw_put.specs.Causes.{AreMany, IsCreated, IsSuperseded, IsTooFewCommits, IsTooFewSynced, WasCommitted, WasMissed, WasStored, WasTold}
+use Rattle.sw_quorum.specs.Places.{apart-from_once, counted-among, one_if, some-counted, some-passing}
+use Rattle.sw_quorum.specs.Quorums.{quorums}
+use Rattle.sw_put.specs.Causes.{AreMany, IsCreated, IsSuperseded, IsTooFewCommits, IsTooFewSynced, WasCommitted, WasMissed, WasNotCommitted, WasStored, WasTold}
 use Rattle.sw_put.specs.Plans.{replacement}
 use Rattle.sw_put.specs.Put.{Begun, IsBegun, IsNext, commits, commits_due, committed_end, due, end_at, handoffs, misses, place_of, primaries, put_end, put_message, put_next, replacements, settled_end, stores, stores_due, targets_from, too_few_commits}
 use Rattle.sw_put.specs.declared.end.PutEnd.{PutEnd}
@@ -31,10 +32,9 @@ use Rattle.sw_put.specs.declared.errand.Errand.TheVariants.{StoreAt}
 use Rattle.sw_put.proofs.Causes.{IsMade, counted, told-all}
 use Rattle.sw_put.proofs.Dues.{commits_due_by, length-stores_due, replacement-at, store-at, stores_due_by}
 use Rattle.sw_put.proofs.Homes.{IsFit, known}
-use Rattle.sw_put.proofs.Quorums.{quorums}
 use Rattle.sw_put.proofs.Transcripts.{commits-balance, counts_as, ended, grew, over-all, over-closed, own, stores-balance}
 use Rattle.sw_put.proofs.Warrants.{device-once, index-once, indices-apart}
-use Rattle.sw_put.proofs.Weights.{has_device, has_index, primary-there, store_weight}
+use Rattle.sw_put.proofs.Weights.{commit_weight, has_device, has_index, is_target, primary-there, same_target, store_weight, target_is_itself}
 
 -- ---- quorums
 
@@ -132,6 +132,22 @@ module _ (begun : Begun) (past : List Step) (valid : IsBegun begun) (run : IsRun
       let no_floors : floors (stores past) ≡ [] = subst (IsHighest (floors (stores past))) none (is_highest (floors (stores past))) in
       omega (arith, stores-all w, parts w (stores past), ap (sum_by w) (none-forbidden (stores past) no_floors))
 
+  -- each commit that was due was answered; and where enough are stored, that is one for each of them
+  commits-parts : (w : Target → ℕ) → highest (floors (stores past)) ≡ None → begun.cluster.policy.q ≤ length (done (stores past)) → highest (floors (commits past)) ≡ None
+      → sum_by w (done (commits past)) + sum_by (λ (one : Target × Miss). w one.0) (missed (commits past)) ≡ sum_by w (done (stores past))
+  commits-parts w none enough no_floor =
+      let no_floors : floors (commits past) ≡ [] = subst (IsHighest (floors (commits past))) no_floor (is_highest (floors (commits past))) in
+      omega (
+        arith,
+        commits-balance begun past run (grew begun past run) w,
+        ap (sum_by (counts_as (commit_weight w))) nothing_open,
+        ap (sum_by (commit_weight w)) nothing_left,
+        parts w (commits past),
+        ap (sum_by w) (none-forbidden (commits past) no_floors),
+        ap (sum_by w) (whole-plan begun (stores past) (omega (arith, all_stored)) none enough),
+        sum_ascending w (done (stores past)),
+      )
+
   -- ---- floors
 
   of_stores : highest (floors (stores past)) ≡ None → (floor : Floor) → Contains (floors (stores past)) floor → ⊥
@@ -176,6 +192,7 @@ module _ (begun : Begun) (past : List Step) (valid : IsBegun begun) (run : IsRun
       let all = (told-all begun valid past run).made in
       record {
         own = own;
+        counted = number;
         enough = omega (arith, number, many);
         targets = done (commits past);
         many = record { counted = sym number; indices = made-many.indices };
@@ -274,6 +291,7 @@ module _ (begun : Begun) (past : List Step) (valid : IsBegun begun) (run : IsRun
       let list : told ≡ misses (stores past) = cc in
       let no_commit : commits past ≡ [] = no_commits (or_right (is_some (highest (floors (stores past)))) (nat_lt (length (done (stores past))) begun.cluster.policy.q) (lt-ltb (length (done (stores past))) begun.cluster.policy.q few)) in
       record {
+        counted = number;
         few = omega (arith, number, few);
         no_floor = no_told none (ap (λ (these : List (Judged Target)). highest (floors these)) no_commit);
         targets = done (stores past);
@@ -284,6 +302,24 @@ module _ (begun : Begun) (past : List Step) (valid : IsBegun begun) (run : IsRun
         misses_are = list;
       }
 
+  -- each that was stored was made durable or has a miss
+  each-made : highest (floors (stores past)) ≡ None → begun.cluster.policy.q ≤ length (done (stores past)) → highest (floors (commits past)) ≡ None
+      → (target : Target) → Contains (done (stores past)) target → WasCommitted begun past target ⊎ ((miss : Miss) × WasNotCommitted begun past target miss)
+  each-made none enough no_floor target has = elim (cases_lt 0 (count_by (is_target target) (done (commits past)))) [
+    | inl some ↦
+        let one = some-passing (is_target target) (done (commits past)) some in
+        inl (subst (WasCommitted begun past) (same_target target one.0 one.2) (All-contains (IsMade begun past) (done (commits past)) one.0 (told-all begun valid past run).made one.1).2)
+    | inr few ↦
+        let some : 0 < count_by (λ (one : Target × Miss). is_target target one.0) (missed (commits past)) =
+        omega (arith, few, commits-parts (λ one. one_if (is_target target one)) none enough no_floor, counted-among (is_target target) (done (stores past)) target (target_is_itself target) has) in
+        let one = some-passing (λ (one : Target × Miss). is_target target one.0) (missed (commits past)) some in
+        inr (
+          one.0.1,
+          subst (λ these. WasNotCommitted begun past these one.0.1) (same_target target one.0.0 one.2)
+              (All-contains (λ (one : Target × Miss). WasNotCommitted begun past one.0 one.1) (missed (commits past)) one.0 (told-all begun valid past run).unmade one.1),
+        )
+  ]
+
   pub too_few_made : (have : ℕ) (told : List (ℕ × Miss)) → Settled begun past (TooFewCommits have told) → IsTooFewCommits begun past have told
   too_few_made have told (first_floor floor is same) = absurd (cc)
   too_few_made have told (few_synced none few same) = absurd (cc)
@@ -292,30 +328,26 @@ module _ (begun : Begun) (past : List Step) (valid : IsBegun begun) (run : IsRun
   too_few_made have told (few_made none enough few no_floor same) =
       let number : have ≡ length (done (commits past)) = cc in
       let list : told ≡ misses (commits past) = cc in
-      let no_floors : floors (commits past) ≡ [] = subst (IsHighest (floors (commits past))) no_floor (is_highest (floors (commits past))) in
       let device_miss : Target × Miss → ℕ × Miss = λ one. (one.0.device, one.1) in
-      let size : length (commits_due begun past) ≡ length (done (stores past)) =
-      ap length (whole-plan begun (stores past) (omega (arith, all_stored)) none enough) ∙ sym (sum-ones (ascending (done (stores past)))) ∙ sum_ascending (λ _. 1) (done (stores past)) ∙ sum-ones (done (stores past)) in
       record {
+        counted = number;
         few = omega (arith, number, few);
         no_floor = no_told none no_floor;
         enough = enough;
         targets = done (commits past);
         many = record { counted = sym number; indices = made-many.indices };
         committed = All-weaker (IsMade begun past) (WasCommitted begun past) (λ target was. was.2) (done (commits past)) (told-all begun valid past run).made;
+        each = each-made none enough no_floor;
         others =
             omega (
               arith,
               number,
               ap length list,
               length-map (missed (commits past)) device_miss,
-              parts (λ (_ : Target). 1) (commits past),
-              ap (sum_by (λ (_ : Target). 1)) (none-forbidden (commits past) no_floors),
+              commits-parts (λ _. 1) none enough no_floor,
               sum-ones (done (commits past)),
               sum-ones (missed (commits past)),
-              sum-ones (commits past),
-              all_made,
-              size,
+              sum-ones (done (stores past)),
             );
         misses_are = list;
       }

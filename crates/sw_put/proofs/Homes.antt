@@ -1,5 +1,5 @@
 -- The fragments and commits of a put go to homes of its place; which fragments were stored, and that there were enough of them.
-use Rattle.std.proofs.Common.{◌≡◌, inl, inr, ℕ, zero, ◌+◌, ◌≤◌, ◌<◌, Bool, true, false, not, ◌&&◌, ◌||◌, List, [], ◌∷◌, ◌++◌, append-nil, length, map, Option, Some, None, is_some, refl, sym, ap, subst, arith}
+use Rattle.std.proofs.Common.{◌≡◌, inl, inr, ℕ, zero, ◌+◌, ◌≤◌, ◌<◌, false, not, ◌&&◌, ◌||◌, List, [], ◌∷◌, ◌++◌, append-nil, length, map, Option, Some, None, is_some, refl, sym, ap, subst, arith}
 use Rattle.std.specs.Prelude.{nat_lt}
 use Rattle.std.specs.List.{All, slice_get}
 use Rattle.std.proofs.lemmas.Bool.{and_parts, cond_both, ltb-false, not-true, or_parts}
@@ -20,10 +20,10 @@ use Rattle.sw_message.specs.declared.reply.Reply.TheVariants as reply
 use Rattle.sw_message.specs.declared.sent.Sent.{Sent}
 use Rattle.sw_message.specs.declared.target.Target.{Target}
 use Rattle.sw_message.proofs.Ascents.{all_ascending}
-use Rattle.sw_hashdir.specs.declared.floor.Floor.{Floor}
-use Rattle.sw_quorum.specs.Answers.{done, floors, forbidden_if, missed}
+use Rattle.sw_quorum.specs.Answers.{done, floors, missed}
 use Rattle.sw_quorum.specs.Laws.{done-each, missed-each}
 use Rattle.sw_quorum.specs.Places.{handoffs_apart, handoffs_known, part_small}
+use Rattle.sw_quorum.specs.Refusals.{not-done}
 use Rattle.sw_quorum.specs.declared.verdict.Verdict.TheVariants.{Done}
 use Rattle.sw_put.specs.Causes.{WasStored}
 use Rattle.sw_put.specs.Put.{Begun, IsBegun, IsNext, commits_due, due, handoffs, place_of, primaries, put_message, replacements, store_verdict, stores, stores_due, targets_from}
@@ -44,15 +44,11 @@ abbrev pub Fits : Begun → List Step → Errand → Type 0
 Fits begun past (StoreAt target) = IsFit begun target
 Fits begun past (CommitAt target) = (IsFit begun target × WasStored begun past target) × (begun.cluster.policy.q ≤ length (done (stores past)))
 
-not_forbidden : (b : Bool) (floor : Floor) → forbidden_if b floor ≡ Done → ⊥
-not_forbidden true floor is = cc
-not_forbidden false floor is = cc
-
 -- a fragment was stored only where the reply says so
 pub synced : (stamp : ℕ) (answer : Option Reply) → store_verdict stamp answer ≡ Done → answer ≡ Some reply.Synced
 synced stamp None is = absurd (cc)
 synced stamp (Some reply.Synced) is = refl
-synced stamp (Some (reply.Superseded floor)) is = absurd (not_forbidden (stands_above floor stamp) floor is)
+synced stamp (Some (reply.Superseded floor)) is = absurd (not-done (stands_above floor stamp) floor is)
 synced stamp (Some other) is = absurd (cc)
 
 module _ (begun : Begun) (valid : IsBegun begun) where

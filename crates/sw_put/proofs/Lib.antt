@@ -3,7 +3,6 @@ pub mod Changes
 pub mod Dues
 pub mod Ends
 pub mod Homes
-pub mod Quorums
 pub mod Transcripts
 pub mod Warrants
 pub mod Weights

@@ -1,7 +1,7 @@
 -- What is due, answered and open of a put, however it is counted.
-use Rattle.std.proofs.Common.{◌≡◌, inl, inr, ℕ, ◌+◌, ◌≤◌, ◌<◌, ◌==◌, cond, List, [], ◌∷◌, length, map, Option, refl, ap, arith}
+use Rattle.std.proofs.Common.{◌≡◌, inl, inr, ℕ, ◌+◌, ◌≤◌, ◌<◌, ◌==◌, Bool, true, ◌&&◌, cond, List, [], ◌∷◌, length, map, Option, refl, ap, ◌∙◌, arith}
 use Rattle.std.specs.List.{sum_by}
-use Rattle.std.proofs.lemmas.Bool.{cases_Bool, eqb-false, eqb-true, ne_eqb}
+use Rattle.std.proofs.lemmas.Bool.{and_from, and_parts, cases_Bool, eq-eqb, eqb-false, eqb-true, ne_eqb}
 use Rattle.std.proofs.lemmas.List.Sums.{sum_by-cons}
 use Rattle.sw_message.specs.declared.message.Msg.{Msg}
 use Rattle.sw_message.specs.declared.message.Msg.TheVariants as message
@@ -144,3 +144,17 @@ handoffs-devices f (miss ∷ misses) (handoff ∷ handoffs) =
       sum_by-cons (λ (target : Target). f target.device) (record { index = miss.0.index; device = handoff }) (replacements misses handoffs),
       sum_by-cons f handoff handoffs,
     )
+
+-- ---- by target
+
+abbrev pub is_target : Target → Target → Bool
+is_target one target = target.index == one.index && target.device == one.device
+
+pub target_is_itself : (one : Target) → is_target one one ≡ true
+target_is_itself one = and_from (one.index == one.index) (one.device == one.device) (eq-eqb one.index one.index refl) (eq-eqb one.device one.device refl)
+
+pub same_target : (one target : Target) → is_target one target ≡ true → target ≡ one
+same_target one target is =
+    let same = and_parts (target.index == one.index) (target.device == one.device) is in
+    ap (λ n. record { index = n; device = target.device }) (eqb-true target.index one.index same.0)
+    ∙ ap (λ n. record { index = one.index; device = n }) (eqb-true target.device one.device same.1)

@@ -12,7 +12,7 @@ use Rattle.sw_message.specs.declared.sent.Sent.{Sent}
 use Rattle.sw_message.specs.declared.target.Target.{Target}
 use Rattle.sw_quorum.specs.Answers.{done}
 use Rattle.sw_quorum.specs.declared.verdict.Verdict.TheVariants.{Missed}
-use Rattle.sw_put.specs.Put.{Begun, commits, handoffs, misses, place_of, put_message, store_verdict, stores}
+use Rattle.sw_put.specs.Put.{Begun, commit_verdict, commits, handoffs, misses, place_of, put_message, store_verdict, stores}
 use Rattle.sw_put.specs.declared.errand.Errand.TheVariants.{CommitAt, StoreAt}
 
 -- ---- what was answered
@@ -28,6 +28,11 @@ WasCommitted begun past target = (ticket : ℕ) × Contains past (Told (put_mess
 abbrev pub WasMissed : Begun → List Step → Target → Miss → Type 0
 WasMissed begun past target miss =
     (ticket : ℕ) × (answer : Option Reply) × Contains past (Told (put_message begun ticket (StoreAt target)) answer) × (store_verdict begun.stamp answer ≡ Missed miss)
+
+-- its answer to the commit, or that there was none, was a miss
+abbrev pub WasNotCommitted : Begun → List Step → Target → Miss → Type 0
+WasNotCommitted begun past target miss =
+    (ticket : ℕ) × (answer : Option Reply) × Contains past (Told (put_message begun ticket (CommitAt target)) answer) × (commit_verdict begun.stamp answer ≡ Missed miss)
 
 -- the fragment of the index was handed out to the device
 abbrev pub WasSent : Begun → List Step → Target → Type 0
@@ -46,6 +51,7 @@ pub record AreMany (count : ℕ) (targets : List Target) : Type 0 where
 
 pub record IsCreated (begun : Begun) (past : List Step) (stamp count : ℕ) : Type 0 where
   pub own : stamp ≡ begun.stamp
+  pub counted : count ≡ length (done (commits past))
   pub enough : begun.cluster.policy.c ≤ count
   pub targets : List Target
   pub many : AreMany count targets
@@ -60,6 +66,7 @@ pub record IsSuperseded (begun : Begun) (past : List Step) (floor : Floor) : Typ
   pub few : length (done (commits past)) < begun.cluster.policy.c
 
 pub record IsTooFewSynced (begun : Begun) (past : List Step) (have : ℕ) (missed : List (ℕ × Miss)) : Type 0 where
+  pub counted : have ≡ length (done (stores past))
   pub few : have < begun.cluster.policy.q
   pub no_floor : (floor : Floor) → WasTold begun past floor → ⊥
   pub targets : List Target
@@ -72,12 +79,15 @@ pub record IsTooFewSynced (begun : Begun) (past : List Step) (have : ℕ) (misse
   pub misses_are : missed ≡ misses (stores past)
 
 pub record IsTooFewCommits (begun : Begun) (past : List Step) (have : ℕ) (missed : List (ℕ × Miss)) : Type 0 where
+  pub counted : have ≡ length (done (commits past))
   pub few : have < begun.cluster.policy.c
   pub no_floor : (floor : Floor) → WasTold begun past floor → ⊥
   pub enough : begun.cluster.policy.q ≤ length (done (stores past))
   pub targets : List Target
   pub many : AreMany have targets
   pub committed : All (WasCommitted begun past) targets
-  -- each other that was stored has its miss
+  -- each that was stored was made durable or has a miss
+  pub each : (target : Target) → Contains (done (stores past)) target → WasCommitted begun past target ⊎ ((miss : Miss) × WasNotCommitted begun past target miss)
+  -- each of them once
   pub others : have + length missed ≡ length (done (stores past))
   pub misses_are : missed ≡ misses (commits past)

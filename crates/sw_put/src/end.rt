@@ -12,7 +12,7 @@ pub enum PutEnd {
         stamp: Stamp,
         commits: u32,
     },
-    /// A floor is newer than its stamp: the greatest that was told.
+    /// A floor forbids it: the greatest that was told.
     Superseded {
         floor: Floor,
     },

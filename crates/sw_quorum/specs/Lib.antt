@@ -4,5 +4,7 @@ pub mod Dues
 pub mod Laws
 pub mod Lookups
 pub mod Places
+pub mod Quorums
+pub mod Refusals
 pub mod Tally
 pub mod Transcripts

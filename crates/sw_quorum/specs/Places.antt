@@ -43,15 +43,26 @@ apart-from_once key (x ∷ xs) once =
     (none-is key (key x) xs (omega (arith, once (key x), here, sum_by-cons (λ y. cond (key y == key x) 1 0) x xs)))
     (apart-from_once key xs (λ k. omega (arith, once k, sum_by-cons (λ y. cond (key y == k) 1 0) x xs)))
 
--- where some are there, one is
-pub some-counted : {A : Type 0} (key : A → ℕ) (k : ℕ) (xs : List A) → 0 < count_by (λ x. key x == k) xs → (x : A) × Contains xs x × (key x ≡ k)
-some-counted key k [] some = absurd (omega (arith, some))
-some-counted key k (x ∷ xs) some = elim (cases_Bool (key x == k)) [
-  | inl is ↦ (x, (zero, omega arith, refl), eqb-true (key x) k is)
+-- what passes a test is counted
+pub counted-among : {A : Type 0} (test : A → Bool) (xs : List A) (x : A) → test x ≡ true → Contains xs x → 0 < count_by test xs
+counted-among test [] x passes (i, within, is) = absurd (omega (arith, within))
+counted-among test (first ∷ xs) x passes (zero, within, is) = omega (arith, sum_by-cons (λ y. cond (test y) 1 0) first xs, ap one_if (ap test is ∙ passes))
+counted-among test (first ∷ xs) x passes (suc i, within, is) =
+    omega (arith, sum_by-cons (λ y. cond (test y) 1 0) first xs, counted-among test xs x passes (i, omega (arith, within), is))
+
+-- and what is counted passes it
+pub some-passing : {A : Type 0} (test : A → Bool) (xs : List A) → 0 < count_by test xs → (x : A) × Contains xs x × (test x ≡ true)
+some-passing test [] some = absurd (omega (arith, some))
+some-passing test (x ∷ xs) some = elim (cases_Bool (test x)) [
+  | inl is ↦ (x, (zero, omega arith, refl), is)
   | inr other ↦
-      let later = some-counted key k xs (omega (arith, some, ap one_if other, sum_by-cons (λ x. cond (key x == k) 1 0) x xs)) in
+      let later = some-passing test xs (omega (arith, some, ap one_if other, sum_by-cons (λ y. cond (test y) 1 0) x xs)) in
       (later.0, Contains-cons later.0 x xs later.1, later.2)
 ]
+
+-- and so by a key
+pub some-counted : {A : Type 0} (key : A → ℕ) (k : ℕ) (xs : List A) → 0 < count_by (λ x. key x == k) xs → (x : A) × Contains xs x × (key x ≡ k)
+some-counted key k xs some = let one = some-passing (λ x. key x == k) xs some in (one.0, one.1, eqb-true (key one.0) k one.2)
 
 none-counted : (k : ℕ) (xs : List ℕ) → All (λ x. x ≢ k) xs → count_by (λ x. x == k) xs ≡ 0
 none-counted k [] all = refl

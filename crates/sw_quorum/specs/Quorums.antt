@@ -8,6 +8,7 @@ use Rattle.sw_types.specs.declared.policy.PolicyFault.TheVariants.{K, M, N, Q, C
 
 pub record Quorums (p : PolicyModel) : Type 0 where
   pub synced : p.q ≤ p.k + p.m
+  pub committed : p.c ≤ p.q
   pub some_commits : 1 ≤ p.c
 
 pub quorums : (p : PolicyModel) → policy_fault p ≡ None → Quorums p
@@ -20,4 +21,4 @@ quorums p h =
     let bounds = or_parts (nat_lt p.q p.k) (nat_lt (p.k + p.m) p.q) synced.0 in
     let parts = or_parts (p.c == 0) (nat_lt p.q p.c) commits.0 in
     let some : (p.c == 0) ≡ false = parts.0 in
-    record { synced = ltb-false _ _ bounds.1; some_commits = grind (arith, nat_tests) }
+    record { synced = ltb-false _ _ bounds.1; committed = ltb-false _ _ parts.1; some_commits = grind (arith, nat_tests) }
