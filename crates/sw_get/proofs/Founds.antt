@@ -103,7 +103,7 @@ sources_apart (source ∷ sources) [] same pairs = absurd same
 sources_apart (source ∷ sources) (archive ∷ archives) same pairs =
     AllPairs-cons Apart source sources
     (subst (λ n. All (λ (other : Target). n ≢ other.index) sources) same.0
-      (others_apart archive.index sources archives same.1 (λ i d within. pairs zero (suc i) d (omega arith) (omega arith))))
+    (others_apart archive.index sources archives same.1 (λ i d within. pairs zero (suc i) d (omega arith) (omega arith))))
     (sources_apart sources archives same.1 (λ i j d less within. pairs (suc i) (suc j) d (omega arith) (omega arith)))
 
 -- ---- what is known of answers
@@ -139,8 +139,7 @@ module _ (begun : Begun) (past : List Step) (learnt : Learnt) (known : AreKnown 
   put_of source archive is =
       let same : is.to ≡ to = same_Some is.to to (sym is.target ∙ target) in
       let genuine = (known_at begun learnt past (Told (fetch_message begun is.ticket is.to.stamp source) (Some (reply.Fragment is.bytes))) known is.told).1 archive is.wanted.0 in
-      let asked = is.wanted.1 in
-      (
+      let asked = is.wanted.1 in (
         genuine.0,
         genuine.1,
         record {
@@ -231,7 +230,7 @@ module _ (begun : Begun) (valid : IsBegun begun) (past : List Step) (learnt : Le
       let booked = put.0 in
       let Of : Target → ArchiveModel → Type 0 = λ source archive. IsOfPutAt begun past learnt known from facts to found.chosen.target booked source archive in
       let all = zip-weaker (λ source archive. IsBrought begun past from facts source archive) Of (one_put begun past learnt known from facts to found.chosen.target book booked put.1 put.2)
-          facts.sources facts.archives keeps.brought in
+      facts.sources facts.archives keeps.brought in
       let together = turns_together begun past turns are in
       let enough = enough_of facts.sources facts.archives booked all found.enough in
       let fields : (source : Target) (archive : ArchiveModel) → Of source archive → archive ≡ put_fields policy booked.stamp booked.name booked.object archive.index = λ source archive one. one.fields in
@@ -249,11 +248,11 @@ module _ (begun : Begun) (valid : IsBegun begun) (past : List Step) (learnt : Le
       let stamps : booked.stamp ≡ stamp = put.2 ∙ sym found.stamp_is in
       let sent = zip-left Of (IsSource begun past to.stamp booked.object) (source_of begun past learnt known from facts to found.chosen.target book booked put.1 put.2) facts.sources facts.archives all in
       let distinct = sources_apart facts.sources facts.archives
-          (zip-weaker Of (λ source archive. archive.index ≡ source.index) (λ source archive one. one.index) facts.sources facts.archives all) together.distinct in
+      (zip-weaker Of (λ source archive. archive.index ≡ source.index) (λ source archive one. one.index) facts.sources facts.archives all) together.distinct in
       record {
         booked = subst (λ (one : Booked). Contains learnt.book one)
             (ap (λ n. record { stamp = n; name = booked.name; object = booked.object }) stamps ∙ ap (λ n. record { stamp = stamp; name = n; object = booked.object }) put.3
-              ∙ ap (λ o. record { stamp = stamp; name = begun.name; object = o }) (sym same)) put.1;
+            ∙ ap (λ o. record { stamp = stamp; name = begun.name; object = o }) (sym same)) put.1;
         durable = subst (ListsDurable past) (sym found.stamp_is) (target_listed begun past turns to are found.chosen.target found.chosen.durable);
         count = length-ascending facts.sources ∙ found.enough;
         apart = ascending-apart Apart (λ a b apart same. apart (sym same)) facts.sources distinct;
@@ -269,5 +268,5 @@ found_put begun past learnt stamp object sources valid run book known end =
     let few = answers_few (facts_in begun turns) (opens past) [] keeps.counted in
     let ends = ends_found begun turns stamp object sources (going_in begun turns) end.2 in
     let says = subst (GoingSays begun.cluster.policy (devices begun) (from_in begun turns) (facts_in begun turns)) ends.goes
-        (going_says begun.cluster.policy (devices begun) (from_in begun turns) (facts_in begun turns) keeps.within.asked_few keeps.within.tried_few few.1) in
+    (going_says begun.cluster.policy (devices begun) (from_in begun turns) (facts_in begun turns) keeps.within.asked_few keeps.within.tried_few few.1) in
     subst (IsPutFound begun past learnt stamp object) (sym ends.sources_are) (put_found begun valid past learnt book known turns end.1 keeps stamp says.2 object ends.is)

@@ -291,13 +291,13 @@ module _ (begun : Begun) (valid : IsBegun begun) (past : List Step) (turns : Lis
         let opened : open_at ticket past ≡ Some (ask_message begun ticket device) = ap (λ n. open_at n past) (sym own) ∙ is ∙ ap (λ (one : Sent). Some one) same in
         subst (λ (one : Sent). Keeps begun (Told one answer ∷ past) (Hears one meaning ∷ turns)) (sym same)
         (subst (λ m. Keeps begun (Told (ask_message begun ticket device) answer ∷ past) (Hears (ask_message begun ticket device) m ∷ turns)) (sym meant)
-          (heard_ask device opened (subst (IsErrand begun (Ask device)) same errand)))
+        (heard_ask device opened (subst (IsErrand begun (Ask device)) same errand)))
     told sent meaning is own means (Fetch stamp source) errand at =
         let same : sent ≡ fetch_message begun ticket stamp source = errand.message ∙ ap (λ n. fetch_message begun n stamp source) own in
         let opened : open_at ticket past ≡ Some (fetch_message begun ticket stamp source) = ap (λ n. open_at n past) (sym own) ∙ is ∙ ap (λ (one : Sent). Some one) same in
         subst (λ (one : Sent). Keeps begun (Told one answer ∷ past) (Hears one meaning ∷ turns)) (sym same)
         (heard_fetch stamp source meaning opened (subst (IsErrand begun (Fetch stamp source)) same errand) at
-          (subst (λ (one : Sent). IsMeant begun turns one.msg answer meaning) same means))
+        (subst (λ (one : Sent). IsMeant begun turns one.msg answer meaning) same means))
 
 -- ---- every transcript
 

@@ -211,7 +211,7 @@ module _ (Q : Floor → Type 0) where
   lists_shown (Hears sent meaning ∷ turns) shown =
       subst (All Q) (sym (flat_map-append floors_of (facts_of turns).lists (listed_by sent.device sent.msg meaning)))
       (All-append Q (flat_map floors_of (facts_of turns).lists) (flat_map floors_of (listed_by sent.device sent.msg meaning))
-        (lists_shown turns (All-left Q (floors_shown turns) (shown_by meaning) shown)) (of_lists sent.device sent.msg meaning (All-right Q (floors_shown turns) (shown_by meaning) shown)))
+      (lists_shown turns (All-left Q (floors_shown turns) (shown_by meaning) shown)) (of_lists sent.device sent.msg meaning (All-right Q (floors_shown turns) (shown_by meaning) shown)))
 
   -- the greatest of some floors is one of them
   highest_shown : (best : Option Floor) (floors : List Floor) (to : Floor) → ((floor : Floor) → best ≡ Some floor → Q floor) → All Q floors → highest_from best floors ≡ Some to → Q to
@@ -243,16 +243,16 @@ durably_listed : (past : List Step) (listing : ListingModel) → IsListed past l
 durably_listed past listing is =
     All-append (Durably past) (map durable_floor (filter is_durable listing.entries)) (map tombstone_floor listing.tombstones)
     (All-map (Durably past) durable_floor (filter is_durable listing.entries)
-      (λ i d below durable.
-        let entry : Entry = get_or (filter is_durable listing.entries) i d in
-        let among = All-filter is_durable (Contains listing.entries) listing.entries (All-contains_itself listing.entries) i d below in
-        let kept = filter_passes is_durable listing.entries i d below in
-        record {
-          listing = listing;
-          listed = is;
-          index = entry.index;
-          entry = subst (Contains listing.entries) (ap (λ b. record { stamp = entry.stamp; index = entry.index; durable = b }) kept) among;
-        }))
+    (λ i d below durable.
+    let entry : Entry = get_or (filter is_durable listing.entries) i d in
+    let among = All-filter is_durable (Contains listing.entries) listing.entries (All-contains_itself listing.entries) i d below in
+    let kept = filter_passes is_durable listing.entries i d below in
+    record {
+      listing = listing;
+      listed = is;
+      index = entry.index;
+      entry = subst (Contains listing.entries) (ap (λ b. record { stamp = entry.stamp; index = entry.index; durable = b }) kept) among;
+    }))
     (All-map (Durably past) tombstone_floor listing.tombstones (λ i d below durable. absurd (cc)))
 
 durably_more : (past : List Step) (step : Step) (floor : Floor) → Durably past floor → Durably (step ∷ past) floor

@@ -9,7 +9,8 @@ use sw_message::{Miss, Msg, Operation, Reply, Target};
 use sw_ring::Cluster;
 
 // The handoff 3 and the primaries 0 to 2.
-const RING: &[u8] = br#"{"part_power":0,"k":2,"m":1,"c":2,"segment":4096,"devices":[{"id":0},{"id":1},{"id":2},{"id":3}],"rows":[[0],[1],[2]]}"#;
+const RING: &[u8] =
+    br#"{"part_power":0,"k":2,"m":1,"c":2,"segment":4096,"devices":[{"id":0},{"id":1},{"id":2},{"id":3}],"rows":[[0],[1],[2]]}"#;
 
 // A get of a/c/o.
 fn begun(alloc: Global) -> Result<GetOp, Fail> {
