@@ -20,3 +20,6 @@ pub use crate::end::GetEnd;
 pub use crate::get::GetOp;
 pub use crate::laws::found_law;
 pub use crate::round_end::{Going, KeptEvent, RoundEnd};
+
+#[cfg(test)]
+mod tests;
