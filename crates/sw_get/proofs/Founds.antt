@@ -1,31 +1,28 @@
 -- What a get has found was put under its name.
-use Rattle.std.proofs.Common.{◌≡◌, ◌≢◌, inl, inr, ℕ, zero, suc, ◌+◌, ◌<◌, ◌≤◌, Bool, true, false, Contains, ◌++◌, List, [], ◌∷◌, length, get_or, Option, Some, None, refl, sym, ap, subst, ◌∙◌, arith}
+use Rattle.std.proofs.Common.{◌≡◌, ◌≢◌, ℕ, zero, suc, ◌+◌, ◌≤◌, Bool, true, false, Contains, List, [], ◌∷◌, length, get_or, Option, Some, refl, sym, ap, subst, ◌∙◌, arith}
 use Rattle.std.specs.Prelude.{if◌then◌else◌, Ok}
 use Rattle.std.specs.List.{All, AllPairs, AllZip}
 use Rattle.std.proofs.lemmas.List.Elements.{All-cons, All-head, All-nil, All-tail}
 use Rattle.std.proofs.lemmas.List.Kept.{AllPairs-cons}
-use Rattle.std.proofs.lemmas.Option.{none-some, same_Some}
+use Rattle.std.proofs.lemmas.Option.{same_Some}
 use Rattle.std.proofs.lemmas.Slice.Zip.{AllZip-long}
 use Rattle.sw_types.specs.Name.{name_fault}
-use Rattle.sw_types.specs.Object.{IsObject, ObjectModel}
-use Rattle.sw_types.specs.Policy.{PolicyModel}
+use Rattle.sw_types.specs.Object.{ObjectModel}
 use Rattle.sw_types.specs.Stamp.{greatest_stamp}
 use Rattle.sw_types.proofs.Policies.{bounds}
 use Rattle.sw_hashdir.specs.declared.floor.Floor.{Floor}
 use Rattle.sw_archive.specs.Archive.{ArchiveModel, IsSound, archive_bytes}
-use Rattle.sw_archive.specs.Assemble.{AreEnough, AreTogether, IsTold}
-use Rattle.sw_archive.specs.Put.{AreOfPut, IsPut, put_archive, put_fields}
+use Rattle.sw_archive.specs.Assemble.{AreEnough}
+use Rattle.sw_archive.specs.Put.{IsPut, put_fields}
 use Rattle.sw_archive.proofs.Objects.{no_archive, object_of_put, some_archive}
-use Rattle.sw_message.specs.Learnt.{AreKnown, Booked, IsOfBook, KnowsReply, Learnt}
+use Rattle.sw_message.specs.Learnt.{AreKnown, Booked, KnowsReply, Learnt}
 use Rattle.sw_message.specs.Targets.{ascending, is_before, with_target}
 use Rattle.sw_message.specs.Transcript.{Gave, IsRun, Step, Told, opens}
-use Rattle.sw_message.specs.declared.reply.Reply.{Reply}
 use Rattle.sw_message.specs.declared.reply.Reply.TheVariants as reply
-use Rattle.sw_message.specs.declared.sent.Sent.{Sent}
 use Rattle.sw_message.specs.declared.target.Target.{Target}
 use Rattle.sw_get.specs.Causes.{IsBook, IsPutFound, IsSource, ListsDurable}
 use Rattle.sw_get.specs.Get.{AreTurns, Begun, EndsAfter, IsBegun, IsEnd, IsFoundObject, IsNext, Turn, devices, facts_in, fetch_message, from_in, going_in}
-use Rattle.sw_get.specs.Round.{Facts, lost, target_of}
+use Rattle.sw_get.specs.Round.{Facts, target_of}
 use Rattle.sw_get.specs.declared.end.GetEnd.TheVariants as gets
 use Rattle.sw_get.specs.declared.round_end.Going.{Going}
 use Rattle.sw_get.specs.declared.round_end.Going.TheVariants as going

@@ -1,7 +1,7 @@
 -- What is known of a round, by what it does next.
-use Rattle.std.proofs.Common.{◌≡◌, inl, inr, ◌⊎◌, ℕ, ◌+◌, ◌==◌, ◌<◌, ◌≤◌, Bool, true, false, not, ◌&&◌, ◌++◌, List, [], ◌∷◌, length, length-append, nat_lt, Option, Some, None, refl, sym, ap, subst, ◌∙◌, arith}
+use Rattle.std.proofs.Common.{◌≡◌, inl, inr, ◌⊎◌, ℕ, zero, ◌+◌, ◌==◌, ◌<◌, ◌≤◌, Bool, true, false, not, ◌&&◌, Contains, ◌++◌, List, [], ◌∷◌, length, length-append, nat_lt, Option, Some, None, refl, sym, ap, subst, ◌∙◌, arith}
 use Rattle.std.specs.Prelude.{if◌then◌else◌}
-use Rattle.std.specs.List.{slice_get}
+use Rattle.std.specs.List.{find, slice_get}
 use Rattle.std.proofs.lemmas.Bool.{eqb-true, ltb-false, ltb-true}
 use Rattle.std.proofs.lemmas.Bool.Decides.{nat_tests}
 use Rattle.std.proofs.lemmas.Option.{none-some, same_Some}
@@ -9,12 +9,14 @@ use Rattle.sw_types.specs.Policy.{PolicyModel}
 use Rattle.sw_hashdir.specs.declared.floor.Floor.{Floor}
 use Rattle.sw_hashdir.specs.declared.floor.FloorKind.{FloorKind}
 use Rattle.sw_hashdir.specs.declared.floor.FloorKind.TheVariants.{Durable, Tombstone}
+use Rattle.sw_message.specs.declared.miss.Miss.{Miss}
 use Rattle.sw_message.specs.declared.target.Target.{Target}
 use Rattle.sw_quorum.specs.Lookups.{slice_get_none}
-use Rattle.sw_get.specs.Round.{Devices, Facts, all_devices, ask_or, asked_going, candidates, choices_going, closed, fetch_going, fetch_or, few_going, firsts, is_empty, lost, next_source, ran_out, risen_or, rises, round_going, target_going, target_of}
+use Rattle.sw_get.specs.Round.{Devices, Facts, all_devices, ask_or, asked_going, candidates, choices_going, closed, fetch_going, fetch_or, few_going, firsts, is_empty, is_free, lost, next_source, ran_out, risen_or, rises, round_going, target_going, target_of}
 use Rattle.sw_get.specs.declared.round_end.Going.{Going}
 use Rattle.sw_get.specs.declared.round_end.Going.TheVariants.{Ask, End, Fetch, Keep, Wait}
-use Rattle.sw_get.specs.declared.round_end.KeptEvent.TheVariants.{Rose}
+use Rattle.sw_get.specs.declared.round_end.KeptEvent.{KeptEvent}
+use Rattle.sw_get.specs.declared.round_end.KeptEvent.TheVariants.{Gone, Rose}
 use Rattle.sw_get.specs.declared.round_end.RoundEnd.{RoundEnd}
 use Rattle.sw_get.specs.declared.round_end.RoundEnd.TheVariants as end
 
@@ -43,12 +45,36 @@ pub record IsFound (policy : PolicyModel) (from : Option Floor) (facts : Facts) 
 abbrev pub AreFetched : PolicyModel → Option Floor → Facts → Type 0
 AreFetched policy from facts = ((to : Floor) → IsChosen policy from facts to → ⊥) ⊎ (length facts.tried ≤ length facts.sources + lost facts)
 
+-- a stamp that the target has, and its kind
+pub record IsTarget (from : Option Floor) (facts : Facts) (stamp : ℕ) (kind : FloorKind) : Type 0 where
+  pub to : Floor
+  pub target : target_of from facts ≡ Some to
+  pub kind_is : to.kind ≡ kind
+  pub stamp_is : stamp ≡ to.stamp
+
+-- so many indices are listed, too few, and every device answered
+pub record AreFew (policy : PolicyModel) (from : Option Floor) (facts : Facts) (stamp have : ℕ) : Type 0 where
+  pub is : IsTarget from facts stamp Durable
+  pub count : have ≡ length (firsts (candidates policy stamp facts))
+  pub few : have < policy.k
+  pub none_missed : facts.misses ≡ []
+
+-- a device missed, or a source did
+abbrev pub SomeMissed : PolicyModel → Facts → Type 0
+SomeMissed policy facts = (policy.c ≤ length facts.misses) ⊎ ((0 < length facts.misses) ⊎ (0 < length facts.failed))
+
+-- what is known as the get ends by a round
 abbrev pub EndSays : PolicyModel → Option Floor → Facts → RoundEnd → Type 0
 EndSays policy from facts (end.Found stamp) = IsFound policy from facts stamp
-EndSays policy from facts end.Absent = Unit {0}
-EndSays policy from facts (end.Buried stamp) = Unit {0}
-EndSays policy from facts end.Unanswered = Unit {0}
-EndSays policy from facts (end.TooFew stamp have) = Unit {0}
+EndSays policy from facts end.Absent = (target_of from facts ≡ None) × (length facts.misses < policy.c)
+EndSays policy from facts (end.Buried stamp) = IsTarget from facts stamp Tombstone
+EndSays policy from facts end.Unanswered = SomeMissed policy facts
+EndSays policy from facts (end.TooFew stamp have) = AreFew policy from facts stamp have
+
+-- what is known as it is kept as an event
+abbrev pub KeepSays : Option Floor → Facts → KeptEvent → Type 0
+KeepSays from facts (Gone device index) = (source : Target) × Contains facts.gone source × (device ≡ source.device) × (index ≡ source.index)
+KeepSays from facts (Rose start to) = (start ≡ from) × (rises from to ≡ true)
 
 -- once every device has answered
 abbrev pub LaterSays : PolicyModel → Option Floor → Facts → Going → Type 0
@@ -56,7 +82,7 @@ LaterSays policy from facts (Ask device) = ⊥
 LaterSays policy from facts (Fetch stamp source) = IsNextFetch policy from facts stamp source
 LaterSays policy from facts Wait = length facts.sources + lost facts < length facts.tried
 LaterSays policy from facts (End ending) = AreFetched policy from facts × EndSays policy from facts ending
-LaterSays policy from facts (Keep event) = AreFetched policy from facts
+LaterSays policy from facts (Keep event) = AreFetched policy from facts × KeepSays from facts event
 
 module _ (policy : PolicyModel) (from : Option Floor) (facts : Facts) (tried_few : length facts.tried ≤ policy.k + lost facts) (closed_few : length facts.sources + lost facts ≤ length facts.tried) where
   abbrev Says : Going → Type 0
@@ -66,16 +92,26 @@ module _ (policy : PolicyModel) (from : Option Floor) (facts : Facts) (tried_few
   length-closed = omega (arith, length-append (facts.sources ++ facts.gone) facts.failed, length-append facts.sources facts.gone)
 
   risen : (to : Floor) (ending : RoundEnd) → AreFetched policy from facts → EndSays policy from facts ending → Says (risen_or from to ending)
-  risen to ending fetched says = by_test (rises from to)
+  risen to ending fetched says = by_test (rises from to) refl
     where
-      by_test : (b : Bool) → Says (if b then Keep (Rose from to) else End ending)
-      by_test true = fetched
-      by_test false = (fetched, says)
+      by_test : (b : Bool) → rises from to ≡ b → Says (if b then Keep (Rose from to) else End ending)
+      by_test true is = (fetched, (refl, is))
+      by_test false is = (fetched, says)
 
   module _ (to : Floor) (chosen : IsChosen policy from facts to) where
-    ran : (gone : List Target) → AreFetched policy from facts → Says (ran_out from to gone)
-    ran (source ∷ others) fetched = fetched
-    ran [] fetched = risen to end.Unanswered fetched tt
+    -- where a source was lost and none is gone, one missed
+    ran : (gone : List Target) → facts.gone ≡ gone → 0 < lost facts → AreFetched policy from facts → Says (ran_out from to gone)
+    ran (source ∷ others) is some fetched = (fetched, (source, subst (λ these. Contains these source) (sym is) (zero, omega arith, refl), refl, refl))
+    ran [] is some fetched = risen to end.Unanswered fetched (inr (inr (omega (arith, some, ap length is))))
+
+    -- where no candidate is left, some source was lost
+    none_left : (b : Bool) → nat_lt (length facts.tried) policy.k ≡ b
+        → (if b then slice_get (firsts (candidates policy to.stamp facts)) (length facts.tried) else find (is_free facts) (candidates policy to.stamp facts)) ≡ None → length facts.tried < policy.k + lost facts
+        → 0 < lost facts
+    none_left true less none few =
+        let fewer = slice_get_none (firsts (candidates policy to.stamp facts)) (length facts.tried) none in
+        absurd (omega (arith, ltb-true (length facts.tried) policy.k less, fewer, chosen.choices))
+    none_left false more none few = omega (arith, ltb-false (length facts.tried) policy.k more, few)
 
     fetching : (source : Option Target) → next_source policy (candidates policy to.stamp facts) facts ≡ source → length facts.tried < policy.k + lost facts → Says (fetch_or from to facts source)
     fetching (Some source) is few = record { to = to; chosen = chosen; stamp_is = refl; few = few; source_is = is }
@@ -83,7 +119,7 @@ module _ (policy : PolicyModel) (from : Option Floor) (facts : Facts) (tried_few
       where
         by_test : (b : Bool) → nat_lt (length (closed facts)) (length facts.tried) ≡ b → Says (if b then Wait else ran_out from to facts.gone)
         by_test true less = let fewer = ltb-true (length (closed facts)) (length facts.tried) less in omega (arith, fewer, length-closed)
-        by_test false more = let all = ltb-false (length (closed facts)) (length facts.tried) more in ran facts.gone (inr (omega (arith, all, length-closed)))
+        by_test false more = let all = ltb-false (length (closed facts)) (length facts.tried) more in ran facts.gone refl (none_left (nat_lt (length facts.tried) policy.k) refl is few) (inr (omega (arith, all, length-closed)))
 
     fetched : Says (fetch_going policy from to (candidates policy to.stamp facts) facts)
     fetched = by_test (length facts.sources == policy.k) refl
@@ -105,40 +141,47 @@ module _ (policy : PolicyModel) (from : Option Floor) (facts : Facts) (tried_few
   same_to : (to other : Floor) → target_of from facts ≡ Some to → IsChosen policy from facts other → to ≡ other
   same_to to other is chosen = same_Some to other (sym is ∙ chosen.target)
 
-  few : (to : Floor) (choices : List Target) → candidates policy to.stamp facts ≡ choices → target_of from facts ≡ Some to → length (firsts choices) < policy.k
+  few : (to : Floor) (choices : List Target) → candidates policy to.stamp facts ≡ choices → target_of from facts ≡ Some to → to.kind ≡ Durable → length (firsts choices) < policy.k
       → Says (few_going from to (length (firsts choices)) facts)
-  few to choices these is less = by_misses (is_empty facts.misses)
+  few to choices these is durable less = by_misses facts.misses refl
     where
       none : AreFetched policy from facts
       none = inl (λ other chosen. let same = same_to to other is chosen in
           let many = subst (λ (floor : Floor). policy.k ≤ length (firsts (candidates policy floor.stamp facts))) (sym same) chosen.choices in
           omega (arith, many, less, ap (λ (xs : List Target). length (firsts xs)) these))
 
-      by_misses : (b : Bool) → Says (risen_or from to (if b then end.TooFew to.stamp (length (firsts choices)) else end.Unanswered))
-      by_misses true = risen to (end.TooFew to.stamp (length (firsts choices))) none tt
-      by_misses false = risen to end.Unanswered none tt
+      by_misses : (misses : List (ℕ × Miss)) → facts.misses ≡ misses → Says (risen_or from to (if is_empty misses then end.TooFew to.stamp (length (firsts choices)) else end.Unanswered))
+      by_misses [] missed =
+          risen to (end.TooFew to.stamp (length (firsts choices))) none
+          (record {
+            is = record { to = to; target = is; kind_is = durable; stamp_is = refl };
+            count = ap (λ (xs : List Target). length (firsts xs)) (sym these);
+            few = less;
+            none_missed = missed;
+          })
+      by_misses (one ∷ others) missed = risen to end.Unanswered none (inr (inl (omega (arith, ap length missed))))
 
   choices : (to : Floor) → target_of from facts ≡ Some to → to.kind ≡ Durable → Says (choices_going policy from to (candidates policy to.stamp facts) facts)
   choices to is durable = by_test (nat_lt (length (firsts (candidates policy to.stamp facts))) policy.k) refl
     where
       by_test : (b : Bool) → nat_lt (length (firsts (candidates policy to.stamp facts))) policy.k ≡ b
           → Says (if b then few_going from to (length (firsts (candidates policy to.stamp facts))) facts else fetch_going policy from to (candidates policy to.stamp facts) facts)
-      by_test true less = few to (candidates policy to.stamp facts) refl is (ltb-true _ policy.k less)
+      by_test true less = few to (candidates policy to.stamp facts) refl is durable (ltb-true _ policy.k less)
       by_test false more = fetched to (record { target = is; durable = durable; choices = ltb-false _ policy.k more })
 
   targeted : (to : Floor) (kind : FloorKind) → target_of from facts ≡ Some to → to.kind ≡ kind → Says (target_going policy from to kind facts)
-  targeted to Tombstone is kind = (inl (λ other chosen. let same = same_to to other is chosen in absurd (cc (ap (λ (floor : Floor). floor.kind) same, kind, chosen.durable))), tt)
+  targeted to Tombstone is kind = (inl (λ other chosen. let same = same_to to other is chosen in absurd (cc (ap (λ (floor : Floor). floor.kind) same, kind, chosen.durable))), record { to = to; target = is; kind_is = kind; stamp_is = refl })
   targeted to Durable is kind = choices to is kind
 
   pub asked_says : (target : Option Floor) → target_of from facts ≡ target → Says (asked_going policy from target facts)
-  asked_says None is = by_misses (nat_lt (length facts.misses) policy.c)
+  asked_says None is = by_misses (nat_lt (length facts.misses) policy.c) refl
     where
       none : AreFetched policy from facts
       none = inl (λ other chosen. none-some other (sym is ∙ chosen.target))
 
-      by_misses : (b : Bool) → Says (End (if b then end.Absent else end.Unanswered))
-      by_misses true = (none, tt)
-      by_misses false = (none, tt)
+      by_misses : (b : Bool) → nat_lt (length facts.misses) policy.c ≡ b → Says (End (if b then end.Absent else end.Unanswered))
+      by_misses true less = (none, (is, ltb-true (length facts.misses) policy.c less))
+      by_misses false more = (none, inl (ltb-false (length facts.misses) policy.c more))
   asked_says (Some to) is = targeted to to.kind is refl
 
 -- ---- the whole
@@ -153,7 +196,7 @@ GoingSays policy devices from facts (Ask device) = slice_get (all_devices device
 GoingSays policy devices from facts (Fetch stamp source) = AreAllHeard devices facts × IsNextFetch policy from facts stamp source
 GoingSays policy devices from facts Wait = (facts.answered < facts.asked) ⊎ (length facts.sources + lost facts < length facts.tried)
 GoingSays policy devices from facts (End ending) = AreAllHeard devices facts × AreFetched policy from facts × EndSays policy from facts ending
-GoingSays policy devices from facts (Keep event) = AreAllHeard devices facts × AreFetched policy from facts
+GoingSays policy devices from facts (Keep event) = AreAllHeard devices facts × AreFetched policy from facts × KeepSays from facts event
 
 module _ (policy : PolicyModel) (devices : Devices) (from : Option Floor) (facts : Facts) (asked_few : facts.asked ≤ length (all_devices devices))
     (tried_few : length facts.tried ≤ policy.k + lost facts) (closed_few : length facts.sources + lost facts ≤ length facts.tried) where
@@ -162,7 +205,7 @@ module _ (policy : PolicyModel) (devices : Devices) (from : Option Floor) (facts
   later (Fetch stamp source) heard says = (heard, says)
   later Wait heard says = inr says
   later (End ending) heard says = (heard, says.0, says.1)
-  later (Keep event) heard says = (heard, says)
+  later (Keep event) heard says = (heard, says.0, says.1)
 
   hand : (device : Option ℕ) → slice_get (all_devices devices) facts.asked ≡ device → GoingSays policy devices from facts (ask_or policy devices from facts device)
   hand (Some device) is = by_wait (nat_lt facts.asked (length devices.handoffs)) (nat_lt facts.answered (length devices.handoffs)) refl refl

@@ -2,10 +2,12 @@ pub mod Candidates
 pub mod Changes
 pub mod Counts
 pub mod Endings
+pub mod Ends
 pub mod Findings
 pub mod Founds
 pub mod Goings
 pub mod Handings
+pub mod Indices
 pub mod Joins
 pub mod Lists
 pub mod Mailboxes

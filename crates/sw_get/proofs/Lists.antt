@@ -1,6 +1,6 @@
 -- What is found at a number of a list.
-use Rattle.std.proofs.Common.{◌≡◌, ℕ, zero, suc, ◌<◌, List, [], ◌∷◌, ◌++◌, length, Some, refl, arith}
-use Rattle.std.specs.List.{AllZip, slice_get}
+use Rattle.std.proofs.Common.{◌≡◌, ℕ, zero, suc, ◌<◌, Contains, List, [], ◌∷◌, ◌++◌, length, Some, refl, subst, arith}
+use Rattle.std.specs.List.{All, AllZip, slice_get}
 use Rattle.std.proofs.lemmas.Option.{none-some}
 
 -- there is an item at each number below the length
@@ -41,3 +41,8 @@ module _ {A B : Type 0} where
   zip-none R S [] [] none all = tt
   zip-none R S [] (b ∷ ys) none all = absurd all
   zip-none R S (a ∷ xs) ys none all = absurd (cc)
+
+-- ---- what holds of each item
+
+pub All-contains : {A : Type 0} (P : A → Type 0) (xs : List A) (x : A) → All P xs → Contains xs x → P x
+All-contains P xs x all is = subst P is.2 (all is.0 x is.1)

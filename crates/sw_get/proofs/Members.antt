@@ -1,9 +1,9 @@
 -- The devices that a get asks, and those from which it fetches, are of its cluster.
-use Rattle.std.proofs.Common.{◌≡◌, ℕ, ◌+◌, ◌^◌, ◌<◌, ◌≤◌, ◌==◌, Bool, true, false, not, ◌&&◌, List, [], ◌∷◌, length, nat_lt, Some, refl, subst, arith}
+use Rattle.std.proofs.Common.{Contains, get_or, ◌≡◌, ℕ, ◌+◌, ◌^◌, ◌<◌, ◌≤◌, Bool, true, false, not, List, [], ◌∷◌, length, nat_lt, Some, refl, subst, arith}
 use Rattle.std.specs.Prelude.{if◌then◌else◌, slice_index}
 use Rattle.std.specs.List.{All, filter, find, flat_map, slice_get}
 use Rattle.std.proofs.lemmas.List.{length-append, length-map}
-use Rattle.std.proofs.lemmas.List.Elements.{All-append, All-cons, All-contains_itself, All-filter, All-get_or, All-head, All-map, All-nil, All-tail, All-weaker}
+use Rattle.std.proofs.lemmas.List.Elements.{All-append, All-cons, All-contains_itself, All-filter, All-get_or, All-head, All-map, All-nil, All-tail, All-weaker, filter_passes}
 use Rattle.std.proofs.lemmas.List.Filters.{length-filter_both}
 use Rattle.std.proofs.lemmas.Option.{get_or_from_slice_get, none-some, same_Some, slice_get_within}
 use Rattle.sw_types.specs.Policy.{PolicyModel}
@@ -21,7 +21,7 @@ use Rattle.sw_message.specs.Message.{IsMember}
 use Rattle.sw_message.specs.Targets.{ascending, is_before, with_target}
 use Rattle.sw_message.specs.declared.target.Target.{Target}
 use Rattle.sw_get.specs.Get.{Begun, IsBegun, devices, place_of}
-use Rattle.sw_get.specs.Round.{Facts, all_devices, candidates, firsts, has_index, is_free, listed_at, next_source}
+use Rattle.sw_get.specs.Round.{Facts, all_devices, candidates, entry_target, firsts, has_index, is_free, is_listed, listed_at, next_source}
 
 -- ---- lists of targets
 
@@ -38,7 +38,7 @@ module _ (P : Target → Type 0) where
   ascending-kept [] all = all
   ascending-kept (target ∷ targets) all = with-kept target (ascending targets) (All-head P target targets all) (ascending-kept targets (All-tail P target targets all))
 
-  firsts-kept : (targets : List Target) → All P targets → All P (firsts targets)
+  pub firsts-kept : (targets : List Target) → All P targets → All P (firsts targets)
   firsts-kept [] all = all
   firsts-kept (target ∷ targets) all =
       All-cons P target (filter (λ (other : Target). not (has_index target.index other)) (firsts targets)) (All-head P target targets all)
@@ -62,25 +62,27 @@ module _ (P : Target → Type 0) where
       by_few true at = at-kept (firsts choices) (length facts.tried) source at (firsts-kept choices all)
       by_few false found = found-kept (is_free facts) choices source found all
 
--- candidates are at devices that listed
-module _ (P : ℕ → Type 0) where
-  abbrev At : Target → Type 0
-  At target = P target.device
+-- candidates are what listings show
+module _ (Q : Target → Type 0) where
+  -- what holds of each entry of a listing that is of the stamp, at its device
+  abbrev pub OfEntries : (total stamp : ℕ) → ℕ × ListingModel → Type 0
+  OfEntries total stamp one = (entry : Entry) → Contains one.1.entries entry → is_listed total stamp entry ≡ true → Q (record { index = entry.index; device = one.0 })
 
-  listed-kept : (total stamp : ℕ) (one : ℕ × ListingModel) → P one.0 → All At (listed_at total stamp one)
-  listed-kept total stamp one is =
-      All-map At (λ (entry : Entry). record { index = entry.index; device = one.0 }) (filter (λ (entry : Entry). entry.stamp == stamp && nat_lt entry.index total) one.1.entries)
-      (λ i d within. is)
+  of_listing : (total stamp : ℕ) (one : ℕ × ListingModel) → OfEntries total stamp one → All Q (listed_at total stamp one)
+  of_listing total stamp one is =
+      let kept = filter (is_listed total stamp) one.1.entries in
+      All-map Q (entry_target one.0) kept
+      (λ i d below. is (get_or kept i d) (All-filter (is_listed total stamp) (Contains one.1.entries) one.1.entries (All-contains_itself one.1.entries) i d below)
+      (filter_passes (is_listed total stamp) one.1.entries i d below))
 
-  all-listed : (total stamp : ℕ) (lists : List (ℕ × ListingModel)) → All (λ (one : ℕ × ListingModel). P one.0) lists → All At (flat_map (listed_at total stamp) lists)
-  all-listed total stamp [] all = All-nil At
-  all-listed total stamp (one ∷ lists) all =
-      All-append At (listed_at total stamp one) (flat_map (listed_at total stamp) lists) (listed-kept total stamp one (All-head (λ (one : ℕ × ListingModel). P one.0) one lists all))
-      (all-listed total stamp lists (All-tail (λ (one : ℕ × ListingModel). P one.0) one lists all))
+  of_listings : (total stamp : ℕ) (lists : List (ℕ × ListingModel)) → All (OfEntries total stamp) lists → All Q (flat_map (listed_at total stamp) lists)
+  of_listings total stamp [] all = All-nil Q
+  of_listings total stamp (one ∷ lists) all =
+      All-append Q (listed_at total stamp one) (flat_map (listed_at total stamp) lists) (of_listing total stamp one (All-head (OfEntries total stamp) one lists all))
+      (of_listings total stamp lists (All-tail (OfEntries total stamp) one lists all))
 
-  pub candidates-kept : (policy : PolicyModel) (stamp : ℕ) (facts : Facts) → All (λ (one : ℕ × ListingModel). P one.0) facts.lists → All At (candidates policy stamp facts)
-  candidates-kept policy stamp facts all =
-      ascending-kept At (flat_map (listed_at (policy.k + policy.m) stamp) facts.lists) (all-listed (policy.k + policy.m) stamp facts.lists all)
+  pub candidates-of : (policy : PolicyModel) (stamp : ℕ) (facts : Facts) → All (OfEntries (policy.k + policy.m) stamp) facts.lists → All Q (candidates policy stamp facts)
+  candidates-of policy stamp facts all = ascending-kept Q (flat_map (listed_at (policy.k + policy.m) stamp) facts.lists) (of_listings (policy.k + policy.m) stamp facts.lists all)
 
 -- ---- the devices of the place
 
@@ -127,5 +129,7 @@ module _ (begun : Begun) where
   pub source_known : (stamp : ℕ) (facts : Facts) (source : Target) → next_source begun.cluster.policy (candidates begun.cluster.policy stamp facts) facts ≡ Some source
       → All (λ (one : ℕ × ListingModel). IsMember begun.cluster one.0) facts.lists → IsMember begun.cluster source.device
   source_known stamp facts source is all =
-      source-kept (λ (target : Target). IsMember begun.cluster target.device) begun.cluster.policy (candidates begun.cluster.policy stamp facts) facts source is
-      (candidates-kept (IsMember begun.cluster) begun.cluster.policy stamp facts all)
+      let AtMember : Target → Type 0 = λ target. IsMember begun.cluster target.device in
+      source-kept AtMember begun.cluster.policy (candidates begun.cluster.policy stamp facts) facts source is
+      (candidates-of AtMember begun.cluster.policy stamp facts
+      (All-weaker (λ (one : ℕ × ListingModel). IsMember begun.cluster one.0) (OfEntries AtMember (begun.cluster.policy.k + begun.cluster.policy.m) stamp) (λ one member entry among listed. member) facts.lists all))

@@ -1,12 +1,9 @@
 -- An answer has one meaning, and a transcript one list of turns.
-use Rattle.std.proofs.Common.{◌≡◌, ◌≢◌, inl, inr, ◌⊎◌, ℕ, ◌+◌, ◌<◌, ◌≤◌, ◌++◌, Bool, true, false, List, [], ◌∷◌, length, length-append, append-nil, Option, Some, None, refl, sym, ap, subst, ◌∙◌, arith}
+use Rattle.std.proofs.Common.{◌≡◌, inl, inr, ◌⊎◌, ℕ, ◌<◌, ◌≤◌, ◌++◌, Bool, true, false, List, [], ◌∷◌, length, length-append, append-nil, Option, Some, None, refl, sym, ap, subst, ◌∙◌, arith}
 use Rattle.std.specs.Prelude.{if◌then◌else◌}
-use Rattle.std.specs.List.{All, AllPairs}
 use Rattle.std.proofs.lemmas.List.Elements.{All-nil}
-use Rattle.sw_hashdir.specs.Listing.{ListingModel}
-use Rattle.sw_hashpath.specs.Place.{PlaceModel}
-use Rattle.sw_archive.specs.Archive.{ArchiveModel, IsArchive, IsSound}
-use Rattle.sw_archive.specs.Assemble.{AreAlike, AreTogether, IsNext}
+use Rattle.sw_archive.specs.Archive.{ArchiveModel, IsSound}
+use Rattle.sw_archive.specs.Assemble.{AreTogether, IsNext}
 use Rattle.sw_archive.proofs.Archives.{one_archive}
 use Rattle.sw_archive.proofs.Faults.{no_fault, one_fault}
 use Rattle.sw_archive.proofs.Gatherings.{AreTogether-push}
@@ -23,9 +20,8 @@ use Rattle.sw_message.specs.declared.spoil.Foreign.TheVariants as foreign
 use Rattle.sw_message.specs.declared.spoil.Spoil.{Spoil}
 use Rattle.sw_message.specs.declared.spoil.Spoil.TheVariants as spoil
 use Rattle.sw_message.proofs.Spoils.{FaultLaw, asked_or_spoil, one_spoil_of}
-use Rattle.sw_get.specs.Get.{AreTurns, Begun, Hears, IsMeant, Round, Sends, Turn, brought_by, facts_in, facts_of, is_first, round_in, wanted}
-use Rattle.sw_get.specs.Meaning.{AreRight, AreWrong, Brings, IsFetched, IsRead, IsWanted, Lacks, Lists, Meaning, Misses, Strays, Wanted, asked_meaning}
-use Rattle.sw_get.specs.Round.{Facts}
+use Rattle.sw_get.specs.Get.{AreTurns, Begun, Hears, IsMeant, Round, Sends, Turn, facts_in, facts_of, is_first, round_in, wanted}
+use Rattle.sw_get.specs.Meaning.{AreRight, AreWrong, Brings, IsFetched, IsRead, IsWanted, Lacks, Lists, Meaning, Misses, Strays, Wanted}
 use Rattle.sw_get.proofs.Joins.{enough_from_k}
 use Rattle.sw_get.proofs.Meanings.{asked_cases}
 use Rattle.sw_get.proofs.Turns.{all, now}

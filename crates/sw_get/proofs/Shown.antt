@@ -1,5 +1,5 @@
 -- The floors that a transcript of a get shows are those of listings in its answers.
-use Rattle.std.proofs.Common.{◌≡◌, inl, inr, ◌⊎◌, ℕ, zero, ◌<◌, Bool, true, false, Contains, get_or, ◌++◌, List, [], ◌∷◌, append-nil, Option, Some, None, refl, sym, ap, subst, ◌∙◌, arith}
+use Rattle.std.proofs.Common.{◌≡◌, inl, inr, ℕ, zero, Bool, true, false, Contains, get_or, ◌++◌, List, [], ◌∷◌, append-nil, Option, Some, None, refl, sym, ap, subst, arith}
 use Rattle.std.specs.Prelude.{if◌then◌else◌, map}
 use Rattle.std.specs.List.{All, filter, flat_map}
 use Rattle.std.proofs.lemmas.Grind.{flat_map-append}
@@ -19,9 +19,9 @@ use Rattle.sw_message.specs.declared.reply.Reply.{Reply}
 use Rattle.sw_message.specs.declared.reply.Reply.TheVariants as reply
 use Rattle.sw_message.specs.declared.sent.Sent.{Sent}
 use Rattle.sw_get.specs.Causes.{IsListed, ListsDurable}
-use Rattle.sw_get.specs.Get.{AreTurns, Begun, Hears, IsMeant, Round, Sends, Turn, facts_in, facts_of, floors_shown, from_in, heard, is_first, listed_by, round_in, round_of, shown_by, wanted}
+use Rattle.sw_get.specs.Get.{AreTurns, Begun, Hears, IsMeant, Round, Sends, Turn, facts_in, facts_of, floors_shown, from_in, is_first, listed_by, round_in, round_of, shown_by, wanted}
 use Rattle.sw_get.specs.Meaning.{Brings, IsFetched, Lacks, Lists, Meaning, Misses, asked_meaning}
-use Rattle.sw_get.specs.Round.{Facts, target_of}
+use Rattle.sw_get.specs.Round.{target_of}
 use Rattle.sw_get.proofs.Meanings.{asked_cases, never_lists}
 
 -- ---- the parts of a list
@@ -37,7 +37,7 @@ module _ {X : Type 0} (P : X → Type 0) where
 
 -- ---- the listing of an answer
 
-held_of : (answer : Option Reply) (listing : ListingModel) → asked_meaning answer ≡ Lists listing → answer ≡ Some (reply.Held listing)
+pub held_of : (answer : Option Reply) (listing : ListingModel) → asked_meaning answer ≡ Lists listing → answer ≡ Some (reply.Held listing)
 held_of None listing is = absurd (cc)
 held_of (Some reply.Synced) listing is = absurd (cc)
 held_of (Some reply.Committed) listing is = absurd (cc)
@@ -108,7 +108,7 @@ module _ (begun : Begun) (turns : List Turn) (answer : Option Reply) (listing : 
 listed_told : (past : List Step) (sent : Sent) (answer : Option Reply) (listing : ListingModel) → Gives answer listing → IsListed (Told sent answer ∷ past) listing
 listed_told past sent answer listing gives = record { sent = sent; given = gives.0; told = (zero, omega arith, ap (λ one. Told sent one) gives.1); lists = gives.2 }
 
-listed_more : (past : List Step) (step : Step) (listing : ListingModel) → IsListed past listing → IsListed (step ∷ past) listing
+pub listed_more : (past : List Step) (step : Step) (listing : ListingModel) → IsListed past listing → IsListed (step ∷ past) listing
 listed_more past step listing is = record { sent = is.sent; given = is.given; told = Contains-cons (Told is.sent (Some is.given)) step past is.told; lists = is.lists }
 
 -- ---- what is shown
