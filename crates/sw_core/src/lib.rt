@@ -1,6 +1,6 @@
-//! The world of a cluster: the folders of its devices, and what always holds of them.
+//! Operations over the scene of a cluster: what they leave in the files, and what gets find.
 #![tactic(auto)]
 
 mod laws;
 
-pub use crate::laws::{alone_law, filed_law, found_law};
+pub use crate::laws::{alone_law, found_law};

@@ -83,6 +83,14 @@ impl DeleteOp {
         self.end.as_ref()
     }
 
+    /// How it ended, as far as `next` has seen, handed out.
+    pub fn into_end(self) -> Option<DeleteEnd>
+        ensures end { (begun : Begun) (past : List Step) → Stands self begun past → MatchOption result (self.end ≡ None) (λ end. delete_end begun past ≡ Some end) }
+        ensures ended { is_some result ≡ is_some self.end }
+    {
+        self.end
+    }
+
     // How many go out, as far as the misses say.
     pub(crate) fn due_count(&self) -> usize
         ensures { (begun : Begun) (past : List Step) → Stands self.now begun past → result ≡ length (due begun past) }

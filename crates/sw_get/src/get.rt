@@ -83,6 +83,14 @@ impl GetOp {
         self.end.as_ref()
     }
 
+    /// How it ended, as far as `next` has seen, handed out.
+    pub fn into_end(self) -> Option<GetEnd>
+        ensures end { (begun : Begun) (past : List Step) → Stands self begun past → MatchOption result (self.end ≡ None) (λ end. IsEnd begun past end) }
+        ensures ended { is_some result ≡ is_some self.end }
+    {
+        self.end
+    }
+
     // Takes the answer to a ticket, or that there is none. One that is not open is ignored. It takes no memory.
     pub(crate) fn answer(&mut self, ticket: u64, answer: Option<Reply>)
         ensures stands { (begun : Begun) (past : List Step) → Stands self.old begun past → Stands self.new begun (told past ticket answer) }

@@ -22,3 +22,4 @@ pub mod SurveyStep
 pub mod Surveyed
 pub mod Tidying
 pub mod Told
+pub mod Walks

@@ -1,5 +1,5 @@
 -- What a device keeps in the folder of a name, as it is shown.
-use Rattle.std.specs.Prelude.{◌≡◌, ℕ, Bool, List, [], ◌∷◌, ◌++◌, map, Some}
+use Rattle.std.specs.Prelude.{◌≡◌, ℕ, Bool, List, [], ◌∷◌, ◌++◌, map, Contains, Some}
 use Rattle.std.specs.List.{AllZip}
 use Rattle.sw_disk.specs.Answers.{names_of}
 use Rattle.sw_disk.specs.Folder.{Content, File, content_at}
@@ -35,6 +35,14 @@ pub record IsShown (device : ℕ) (files : List File) (shown : List ShowLine) : 
   pub entries : List ShowLine
   pub are_entries : AllZip (IsShownEntry device files) listing.entries entries
   pub shown_is : shown ≡ or_empty device (entries ++ map (Buried device) listing.tombstones)
+
+-- there is a file of the name of an entry
+abbrev pub HasNameOf : List (List ℕ) → Entry → Type 0
+HasNameOf names entry = IsFileName (Data entry.stamp entry.index entry.durable) × Contains names (file_name_text (Data entry.stamp entry.index entry.durable))
+
+-- the bytes are an archive of this payload
+abbrev pub IsPayload : List ℕ → List ℕ → Type 0
+IsPayload bytes payload = (archive : ArchiveModel) × IsArchive bytes archive × (payload ≡ archive.payload)
 
 -- a file whose name is that of an archive is one
 abbrev pub IsReadable : File → Type 0

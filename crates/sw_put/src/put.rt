@@ -101,6 +101,14 @@ impl PutOp {
         self.end.as_ref()
     }
 
+    /// How it ended, as far as `next` has seen, handed out.
+    pub fn into_end(self) -> Option<PutEnd>
+        ensures end { (begun : Begun) (past : List Step) → Stands self begun past → MatchOption result (self.end ≡ None) (λ end. put_end begun past ≡ Some end) }
+        ensures ended { is_some result ≡ is_some self.end }
+    {
+        self.end
+    }
+
     // How many fragments go out, as far as the misses say.
     fn store_count(&self) -> usize
         ensures { (begun : Begun) (past : List Step) → Stands self.now begun past → result ≡ length (stores_due begun past) }

@@ -3,6 +3,7 @@
 
 mod devices;
 mod end;
+mod numbers;
 mod show;
 mod told;
 

@@ -1,16 +1,4 @@
-mod Assembles
-mod Cuts
 mod EmptyLines
-mod Founds
-mod Holds
-mod LastPuts
-mod Nodes
 mod Outcomes
 mod Outsides
-mod Plays
-mod Puts
-mod Runs
 mod Searches
-mod ShortWords
-mod SoundEvents
-mod Tells

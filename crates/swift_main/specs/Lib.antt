@@ -1,11 +1,3 @@
-pub mod Answer
-pub mod Cut
-pub mod Found
 pub mod Input
-pub mod Nodes
 pub mod Outcome
-pub mod Play
-pub mod Run
-pub mod Script
-pub mod Storing
 pub mod Top

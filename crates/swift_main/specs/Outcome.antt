@@ -1,24 +1,19 @@
 -- What the program answers: its status and all that it writes, by its words and its whole input.
-use Rattle.std.specs.Prelude.{◌≡◌, ℕ, nat_eq, nat_lt, Bool, false, if◌then◌else◌, codes, List, [], ◌∷◌, ◌++◌, length, take, Option, Some, None, Result, Ok, Err}
+use Rattle.std.specs.Prelude.{◌≡◌, ◌⊎◌, ℕ, nat_eq, nat_lt, Bool, true, false, codes, List, [], ◌∷◌, ◌++◌, length, Result, Ok, Err}
 use Rattle.std.specs.Cmp.Lexicographic.{pointwise}
 use Rattle.std.specs.Fmt.{decimal}
-use Rattle.std.specs.List.{concat}
-use Rattle.sw_types.specs.Policy.{PolicyModel}
+use Rattle.sw_ring.specs.Cluster.{ClusterModel, IsCluster, KeepsRules}
 use Rattle.sw_ring.specs.Members.{RingMembers}
 use Rattle.sw_ring.specs.Numbered.{ring_fault_number}
 use Rattle.sw_ring.specs.declared.fault.RingFault.{RingFault}
-use Rattle.swift_main.specs.declared.event.LineFault.{LineFault}
-use Rattle.swift_main.specs.declared.event.LineFault.TheVariants as fault
+use Rattle.sw_script.specs.Line.{line_fault_number, lines_of}
+use Rattle.sw_play.specs.Play.{IsRun}
+use Rattle.sw_play.specs.World.{empty_world}
+use Rattle.sw_play.specs.declared.playing.PlayEnd.{PlayEnd}
+use Rattle.sw_play.specs.declared.playing.PlayEnd.TheVariants as ended
 use Rattle.swift_main.specs.declared.status.Status.{Status}
-use Rattle.swift_main.specs.declared.status.Status.TheVariants.{Done, Usage, Ring, Line, NoMemory, ReadFault, WriteFault, TooLong}
+use Rattle.swift_main.specs.declared.status.Status.TheVariants.{Done, Usage, Ring, Line, NoMemory, ReadFault, WriteFault, Spent, TooLong}
 use Rattle.swift_main.specs.Input.{ring_in, script_in}
-use Rattle.swift_main.specs.Run.{run_lines}
-use Rattle.swift_main.specs.Script.{Fault, events_of, first_fault, lines_of}
-
--- the number of a line's fault
-abbrev pub line_fault_number : LineFault → ℕ
-line_fault_number fault.Form = 1
-line_fault_number fault.NoMemory = 0
 
 -- the exit status
 abbrev pub status_code : Status → ℕ
@@ -29,6 +24,7 @@ status_code (Line line fault) = 3
 status_code NoMemory = 4
 status_code ReadFault = 5
 status_code WriteFault = 6
+status_code (Spent line) = 9
 status_code TooLong = 10
 
 -- the last line that is written with a status
@@ -40,6 +36,7 @@ last_line (Line line fault) = codes "line " ++ decimal line ++ codes ": " ++ dec
 last_line NoMemory = []
 last_line ReadFault = []
 last_line WriteFault = []
+last_line (Spent line) = codes "line " ++ decimal line ++ codes ": stamps spent" ++ 10 ∷ []
 last_line TooLong = codes "input too long" ++ 10 ∷ []
 
 -- the words are the program's name and the one command that there is yet
@@ -51,34 +48,41 @@ is_play _ = false
 abbrev pub greatest_input : ℕ
 greatest_input = 67108864
 
--- how the program ends, and the lines of ends that it writes before the last line
-pub record Outcome : Type 0 where
-  pub status : Status
-  pub ends : List (List ℕ)
+-- ---- how the program ends, and what it writes before the last line
 
-abbrev pub script_status : Option Fault → Status
-script_status None = Done
-script_status (Some fault) = Line fault.line fault.fault
+-- how a script ended, by the program's status
+abbrev pub EndsAs : Status → PlayEnd → Type 0
+EndsAs Done end = end ≡ ended.Done
+EndsAs (Line line fault) end = end ≡ ended.Line line fault
+EndsAs (Spent line) end = end ≡ ended.Spent line
+EndsAs NoMemory end = end ≡ ended.NoMemory
+EndsAs other end = ⊥
 
--- of a script over a cluster of this policy
-abbrev pub script_outcome : PolicyModel → List ℕ → Outcome
-script_outcome policy script = record { status = script_status (first_fault 1 (lines_of script)); ends = run_lines policy [] (events_of (lines_of script)) }
+-- of a script over a cluster, from an empty world on: the text of a run
+abbrev pub ScriptGives : ClusterModel → List ℕ → Status → List ℕ → Type 0
+ScriptGives cluster script status told = (end : PlayEnd) × EndsAs status end × IsRun cluster empty_world (lines_of script) end told
 
--- of a ring, or the rule that it breaks, and a script
-abbrev pub ring_outcome : Result RingMembers RingFault → List ℕ → Outcome
-ring_outcome (Ok members) script = script_outcome members.policy script
-ring_outcome (Err fault) script = record { status = Ring fault; ends = [] }
+-- of a script behind a ring, or the rule that the ring breaks
+abbrev pub RingGives : Result RingMembers RingFault → List ℕ → Status → List ℕ → Type 0
+RingGives (Err fault) script status told = (status ≡ Ring fault) × (told ≡ [])
+RingGives (Ok members) script status told = (cluster : ClusterModel) × IsCluster members cluster × KeepsRules cluster × ScriptGives cluster script status told
 
-abbrev pub outcome_of : List (List ℕ) → List ℕ → Outcome
-outcome_of words input =
-    if is_play words then (if nat_lt greatest_input (length input) then record { status = TooLong; ends = [] } else ring_outcome (ring_in input) (script_in input))
-    else record { status = Usage; ends = [] }
+abbrev pub InputGives : Bool → List ℕ → Status → List ℕ → Type 0
+InputGives true input status told = (status ≡ TooLong) × (told ≡ [])
+InputGives false input status told = RingGives (ring_in input) (script_in input) status told
+
+abbrev pub WordsGive : Bool → List ℕ → Status → List ℕ → Type 0
+WordsGive false input status told = (status ≡ Usage) × (told ≡ [])
+WordsGive true input status told = InputGives (nat_lt greatest_input (length input)) input status told
+
+-- by the words and the input
+abbrev pub Gives : List (List ℕ) → List ℕ → Status → List ℕ → Type 0
+Gives words input status told = WordsGive (is_play words) input status told
 
 -- all that is written
-abbrev pub text_of : Outcome → List ℕ
-text_of outcome = concat outcome.ends ++ last_line outcome.status
+abbrev pub text_of : Status → List ℕ → List ℕ
+text_of status told = told ++ last_line status
 
--- some of the lines of ends, each whole, as many as there was memory for
-pub record IsPart (outcome : Outcome) (text : List ℕ) : Type 0 where
-  pub ended : ℕ
-  pub lines : text ≡ concat (take ended outcome.ends)
+-- Where memory was wanted, nothing was told, or what is told of some first events of the script, each whole.
+abbrev pub GivesPart : List (List ℕ) → List ℕ → List ℕ → Type 0
+GivesPart words input told = (told ≡ []) ⊎ Gives words input NoMemory told

@@ -1,11 +1,11 @@
 -- What the top call reads and writes. Its source and its sink may tell nothing: then there still are bytes that were read,
 -- and what is answered and written is by these.
-use Rattle.std.specs.Prelude.{◌≡◌, ℕ, ◌+◌, ◌<◌, ◌≤◌, true, false, List, [], length, take, Option}
+use Rattle.std.specs.Prelude.{◌≡◌, ◌⊎◌, ℕ, ◌+◌, ◌≤◌, true, false, List, [], length, Option}
 use Rattle.std.specs.Io.KnownBytes.{Appends, Consumes, IsAtEnd, Keeps}
-use Rattle.std.specs.List.{concat}
 use Rattle.sw_io.specs.Whole.{AppendsProperFront}
-use Rattle.swift_main.specs.Found.{TellLastPuts}
-use Rattle.swift_main.specs.Outcome.{greatest_input, is_play, outcome_of, status_code, text_of}
+use Rattle.swift_main.specs.Outcome.{Gives, GivesPart, greatest_input, is_play, status_code, text_of}
+use Rattle.swift_main.specs.declared.status.Status.{Status}
+use Rattle.swift_main.specs.declared.status.Status.TheVariants.{NoMemory}
 
 -- these bytes were read: all of the input, or one more than it may have
 pub record IsInput (old new : Option (List ℕ)) (input : List ℕ) : Type 0 where
@@ -18,26 +18,36 @@ pub record IsRead (words : List (List ℕ)) (old new : Option (List ℕ)) (input
   pub command : is_play words ≡ true → IsInput old new input
   pub no_command : is_play words ≡ false → (input ≡ []) × Keeps old new
 
--- Some bytes were read; the status and all that was written are those of the outcome of the words and these bytes, and where
--- these are no more than an input may have, each line that tells of a found body tells that of the last put of its name.
+-- The status and all that was written are what the words and this input give.
+pub record IsAnswered (words : List (List ℕ)) (input : List ℕ) (written_old written_new : Option (List ℕ)) (code : ℕ) : Type 0 where
+  pub status : Status
+  pub told : List ℕ
+  pub gives : Gives words input status told
+  pub code_is : code ≡ status_code status
+  pub text : Appends written_old written_new (text_of status told)
+
+-- Some bytes were read, and the answer is by these.
 pub record Decided (words : List (List ℕ)) (old new written_old written_new : Option (List ℕ)) (code : ℕ) : Type 0 where
   pub input : List ℕ
   pub read : IsRead words old new input
-  pub status : code ≡ status_code (outcome_of words input).status
-  pub text : Appends written_old written_new (text_of (outcome_of words input))
-  pub found : length input ≤ greatest_input → TellLastPuts input (outcome_of words input).ends
+  pub answered : IsAnswered words input written_old written_new code
 
--- memory was refused: some first lines of the outcome of the bytes that were read were written, or nothing, while reading
+-- memory was wanted: what was written is told of some first events of the script in the bytes that were read, each whole, or it is
+-- nothing
 pub record Stopped (words : List (List ℕ)) (old new written_old written_new : Option (List ℕ)) : Type 0 where
   pub input : List ℕ
   pub consumed : Consumes old new input
   pub within : length input ≤ greatest_input + 1
-  pub ended : ℕ
-  pub read : 0 < ended → IsRead words old new input
-  pub text : Appends written_old written_new (concat (take ended (outcome_of words input).ends))
+  pub told : List ℕ
+  pub part : GivesPart words input told
+  pub read : (told ≡ [] → ⊥) → IsRead words old new input
+  pub text : Appends written_old written_new told
 
--- writing failed: a front of the text of the outcome of the bytes that were read was written, and not all of it
+-- writing failed: a front of the text that the words and the bytes that were read give was written, and not all of it
 pub record Broke (words : List (List ℕ)) (old new written_old written_new : Option (List ℕ)) : Type 0 where
   pub input : List ℕ
   pub read : IsRead words old new input
-  pub text : AppendsProperFront written_old written_new (text_of (outcome_of words input))
+  pub status : Status
+  pub told : List ℕ
+  pub gives : Gives words input status told ⊎ ((status ≡ NoMemory) × GivesPart words input told)
+  pub text : AppendsProperFront written_old written_new (text_of status told)

@@ -1,0 +1,40 @@
+-- An item of a list whose keys differ is found by its key, also once another item with its key stands in its place.
+use Rattle.std.proofs.Common.{◌≡◌, ◌≢◌, ℕ, zero, suc, ◌<◌, ◌==◌, Bool, true, false, cond, List, [], ◌∷◌, length, get_or, Option, Some, refl, sym, ap, ◌∙◌, arith}
+use Rattle.std.specs.List.{AllPairs, find, slice_get, slice_set}
+use Rattle.std.proofs.lemmas.Bool.{eq-eqb, ne_eqb}
+use Rattle.std.proofs.lemmas.Option.{get_or_from_slice_get, slice_get_within}
+
+module _ {X : Type 0} (key : X → ℕ) where
+  abbrev has : ℕ → X → Bool
+  has id x = key x == id
+
+  abbrev Differ : List X → Type 0
+  Differ xs = AllPairs (λ a b. key a ≢ key b) xs
+
+  later : (x : X) (xs : List X) → Differ (x ∷ xs) → Differ xs
+  later x xs differ = λ i j d less within. differ (suc i) (suc j) d (omega arith) (omega arith)
+
+  -- the first differs from a later one
+  first-differs : (first : X) (xs : List X) (place : ℕ) (x : X) → Differ (first ∷ xs) → slice_get xs place ≡ Some x → key first ≢ key x
+  first-differs first xs place x differ at same =
+      differ zero (suc place) x (omega arith) (omega (arith, slice_get_within xs place x at)) (same ∙ ap key (sym (get_or_from_slice_get xs place x x at)))
+
+  pub find_at : (xs : List X) (place : ℕ) (x : X) → Differ xs → slice_get xs place ≡ Some x → find (has (key x)) xs ≡ Some x
+  find_at [] place x differ at = absurd (cc)
+  find_at (first ∷ xs) zero x differ at =
+      let same : first ≡ x = cc in
+      rw same (rw (eq-eqb (key x) (key x) refl) refl)
+  find_at (first ∷ xs) (suc place) x differ at = rw (ne_eqb (key first) (key x) (first-differs first xs place x differ at)) (find_at xs place x (later first xs differ) at)
+
+  pub find_set : (xs : List X) (place : ℕ) (x new : X) → Differ xs → slice_get xs place ≡ Some x → key new ≡ key x → find (has (key x)) (slice_set xs place new) ≡ Some new
+  find_set [] place x new differ at same = absurd (cc)
+  find_set (first ∷ xs) zero x new differ at same = rw (eq-eqb (key new) (key x) same) refl
+  find_set (first ∷ xs) (suc place) x new differ at same = rw (ne_eqb (key first) (key x) (first-differs first xs place x differ at)) (find_set xs place x new (later first xs differ) at same)
+
+  -- what has another key is found as before
+  pub find_other : (xs : List X) (place : ℕ) (x new : X) (other : ℕ) → slice_get xs place ≡ Some x → key new ≡ key x → other ≢ key x → find (has other) (slice_set xs place new) ≡ find (has other) xs
+  find_other [] place x new other at same differs = absurd (cc)
+  find_other (first ∷ xs) zero x new other at same differs =
+      let is : first ≡ x = cc in
+      rw (ne_eqb (key new) other (λ it. differs (sym it ∙ same))) (rw (ne_eqb (key first) other (λ it. differs (sym it ∙ ap key is))) refl)
+  find_other (first ∷ xs) (suc place) x new other at same differs = ap (λ rest. cond (key first == other) (Some first) rest) (find_other xs place x new other at same differs)

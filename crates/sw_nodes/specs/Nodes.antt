@@ -1,0 +1,68 @@
+-- What contracts see of the nodes of a cluster, and how one of them handles a message.
+use Rattle.std.specs.Prelude.{◌≡◌, ◌⊎◌, ℕ, ◌==◌, Bool, true, false, List, [], find, map, slice_get, slice_set, Option, Some, None}
+use Rattle.std.specs.List.{All}
+use Rattle.sw_memdisk.specs.Memory.{LeftBy, MemDiskModel, seen_of, state_of}
+use Rattle.sw_ring.specs.Cluster.{ClusterModel, KeepsRules, ids_of}
+use Rattle.sw_message.specs.Step.{Folders}
+use Rattle.sw_message.specs.declared.message.Msg.{Msg}
+use Rattle.sw_message.specs.declared.reply.Reply.{Reply}
+use Rattle.sw_message.specs.declared.reply.Reply.TheVariants.{DiskFault, NoMemory}
+use Rattle.sw_objsrv.specs.Handling.{folders_of}
+use Rattle.sw_objsrv.specs.Node.{HandlesWhenMounted, IsNode, NodeModel}
+use Rattle.sw_scene.specs.Devices.{Devices, IsHandledBy, capacity_of}
+
+-- a node on a disk in memory
+abbrev pub MemNode : Type 0
+MemNode = NodeModel MemDiskModel
+
+pub record NodesModel : Type 0 where
+  pub cluster : ClusterModel
+  pub nodes : List MemNode
+  -- some node wanted memory
+  pub is_wanting : Bool
+
+-- the node of a device
+abbrev pub node_of : List MemNode → ℕ → Option MemNode
+node_of nodes id = find (λ (node : MemNode). node.device == id) nodes
+
+-- the files in its folders
+abbrev pub files_at : Option MemNode → Folders
+files_at None name = []
+files_at (Some node) name = folders_of (state_of node.disk) name
+
+-- the folders of each device
+abbrev pub devices_of : List MemNode → Devices
+devices_of nodes id name = files_at (node_of nodes id) name
+
+-- What always holds of them: there is a node for each device of the cluster, ascending by id, on a disk of the device's capacity, and
+-- none has to mount again, as long as none wanted memory.
+pub record AreNodes (nodes : NodesModel) : Type 0 where
+  pub rules : KeepsRules nodes.cluster
+  pub each : map (λ (node : MemNode). node.device) nodes.nodes ≡ ids_of nodes.cluster
+  pub are : All (IsNode nodes.cluster seen_of) nodes.nodes
+  pub capacities : All (λ (node : MemNode). node.disk.capacity ≡ capacity_of nodes.cluster node.device) nodes.nodes
+  pub mounted : nodes.is_wanting ≡ false → All (λ (node : MemNode). node.is_due ≡ false) nodes.nodes
+
+-- the reply says that memory was wanted; that a disk failed it says only once its calls can't be counted any more
+abbrev pub is_want : Reply → Bool
+is_want NoMemory = true
+is_want DiskFault = true
+is_want other = false
+
+-- one of these nodes handled a message, and the others are as they were
+pub record IsHandledAt (cluster : ClusterModel) (place : ℕ) (msg : Msg) (reply : Reply) (before after : List MemNode) : Type 0 where
+  pub old : MemNode
+  pub new : MemNode
+  pub at : slice_get before place ≡ Some old
+  pub handles : HandlesWhenMounted seen_of LeftBy cluster msg reply old new
+  pub is_node : IsNode cluster seen_of new
+  pub others : after ≡ slice_set before place new
+
+-- A device handled a message at once. Unless some node wanted memory, that was the step of a node.
+pub record Calls (before : NodesModel) (device : ℕ) (msg : Msg) (answer : Option Reply) (after : NodesModel) : Type 0 where
+  pub reply : Reply
+  pub answered : answer ≡ Some reply
+  pub handled : after.is_wanting ≡ false → IsHandledBy before.cluster device msg reply (devices_of before.nodes) (devices_of after.nodes)
+  pub same_cluster : after.cluster ≡ before.cluster
+  pub wanting : after.is_wanting ≡ false → before.is_wanting ≡ false
+  pub cause : before.is_wanting ≡ false → after.is_wanting ≡ is_want reply

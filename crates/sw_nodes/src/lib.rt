@@ -1,0 +1,8 @@
+//! The nodes of a cluster in one process, on disks in memory, as a link that loses nothing.
+#![tactic(auto)]
+
+mod nodes;
+mod running;
+
+pub use crate::nodes::Nodes;
+pub use crate::running::run_alone;

@@ -1,0 +1,25 @@
+//! Why a world does not do an event.
+
+ghost use Rattle.std.specs.Prelude.{◌≡◌};
+ghost use Rattle.sw_play.specs.declared.fault.StepFault.TheVariants.{NoMemory as WantOfMemory};
+
+use sw_types::NoMemory;
+use thiserror::Error;
+
+/// Why a world does not do an event.
+#[derive(Clone, Copy, Debug, PartialEq, Eq, Error)]
+pub enum StepFault {
+    /// A put or a delete was to draw a stamp, and the last one there is was drawn before.
+    #[error("stamps spent")]
+    StampsSpent,
+    #[error("out of memory")]
+    NoMemory,
+}
+
+impl From<NoMemory> for StepFault {
+    ghost from_gives = { λ _ fault. fault ≡ WantOfMemory };
+
+    fn from(_refused: NoMemory) -> StepFault {
+        StepFault::NoMemory
+    }
+}

@@ -1,0 +1,121 @@
+//! A whole script over a world.
+
+ghost use Rattle.std.specs.Prelude.{◌≡◌, ◌≤◌, true, IfErr, OnErr, OnOk, length};
+ghost use Rattle.sw_play.specs.Lines.{DoesLine, StopsEvent, StopsLine, TellsEvent};
+ghost use Rattle.sw_play.specs.Play.{Played, greatest_script};
+ghost use Rattle.sw_play.specs.Standing.{StandsFor};
+ghost use Rattle.sw_play.specs.World.{World as AWorld, is_accepted};
+ghost use Rattle.sw_script.specs.Line.{lines_of};
+
+use crate::fault::StepFault;
+use crate::world::World;
+use std::alloc::Global;
+use sw_script::{Event, LineFault, cut_at};
+use sw_types::{Bytes, NoMemory};
+
+/// The greatest number of bytes of a script.
+pub const GREATEST_SCRIPT: usize = 67_108_864;
+
+/// How a script ended.
+#[derive(Clone, Copy, Debug, PartialEq, Eq)]
+pub enum PlayEnd {
+    /// Each line was done.
+    Done,
+    /// This line is faulty, counted from 1. The lines before it were done, and none after it.
+    Line { line: u64, fault: LineFault },
+    /// This line was to draw a stamp when the last one there is was drawn. The lines before it were done, and none after it.
+    Spent { line: u64 },
+    NoMemory,
+}
+
+/// Does the events of a script's lines, up to the first faulty one, and adds to the text what is told of them.
+///
+/// From a world that stands for one, there is a story of what was done: each operation ran by its machine, each of its messages was
+/// handled by the table of a node, and what is told is so. The text that was added is that of the story, and each found object in it is
+/// one put's. After want of memory the world answers so from then on.
+pub fn play(alloc: Global, input: &[u8], world: &mut World, text: &mut Bytes) -> PlayEnd
+    requires { length input.now ≤ greatest_script }
+    ensures played { (before : AWorld) → StandsFor world.old before → Played world.old.cluster before (lines_of input.now) result world.new text.old text.new }
+    ensures cluster { world.new.cluster ≡ world.old.cluster }
+{
+    let mut left = Some(input);
+    let mut number = 0;
+    'lines: while let Some(script) = left {
+        let (line, rest) = cut_at(b'\n', script);
+        number += 1;
+        match do_line(alloc, line, world, text) {
+            Ok(()) => left = rest,
+            Err(LineStop::Fault(fault)) => {
+                return PlayEnd::Line {
+                    line: number,
+                    fault,
+                };
+            }
+            Err(LineStop::Spent) => return PlayEnd::Spent { line: number },
+            Err(LineStop::NoMemory) => return PlayEnd::NoMemory,
+        }
+    }
+    PlayEnd::Done
+}
+
+// Why a script stops at a line.
+#[derive(Clone, Copy, Debug, PartialEq, Eq)]
+enum LineStop {
+    Fault(LineFault),
+    Spent,
+    NoMemory,
+}
+
+// Does the event of a line, if it tells one, and adds what is told of it to the text.
+fn do_line(
+    alloc: Global,
+    line: &[u8],
+    world: &mut World,
+    text: &mut Bytes,
+) -> Result<(), LineStop>
+    ensures ok { (before : AWorld) → StandsFor world.old before → OnOk result (DoesLine world.old.cluster before line.now world.new text.old text.new) }
+    ensures stops { IfErr result (λ stop. StopsLine line.now stop world.old world.new) }
+    ensures text { OnErr result (text.new ≡ text.old) }
+    ensures cluster { world.new.cluster ≡ world.old.cluster }
+{
+    match Event::read(alloc, line) {
+        Ok(Some(event)) => {
+            if !world.accepts(&event) {
+                return Err(LineStop::Fault(LineFault::Form));
+            }
+            do_event(alloc, &event, world, text)
+        }
+        Ok(None) => Ok(()),
+        Err(LineFault::NoMemory) => {
+            world.give_up();
+            Err(LineStop::NoMemory)
+        }
+        Err(fault) => Err(LineStop::Fault(fault)),
+    }
+}
+
+// Does an event, and adds what is told of it to the text.
+fn do_event(
+    alloc: Global,
+    event: &Event,
+    world: &mut World,
+    text: &mut Bytes,
+) -> Result<(), LineStop>
+    requires { is_accepted world.old.cluster event.now ≡ true }
+    ensures ok { (before : AWorld) → StandsFor world.old before → OnOk result (TellsEvent world.old.cluster before event.now world.new text.old text.new) }
+    ensures stops { IfErr result (λ stop. StopsEvent event.now stop world.old world.new) }
+    ensures text { OnErr result (text.new ≡ text.old) }
+    ensures cluster { world.new.cluster ≡ world.old.cluster }
+{
+    match world.step(event) {
+        Ok(told) => match told.print(alloc, text) {
+            Ok(()) => Ok(()),
+            Err(NoMemory) => {
+                world.give_up();
+                Err(LineStop::NoMemory)
+            }
+        },
+        Err(StepFault::StampsSpent) => Err(LineStop::Spent),
+        Err(StepFault::NoMemory) => Err(LineStop::NoMemory),
+    }
+}

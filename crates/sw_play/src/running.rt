@@ -1,0 +1,94 @@
+//! Operations over the nodes of a world, each run alone, and what is told of them.
+
+ghost use Rattle.std.specs.Prelude.{◌≡◌, ◌≤◌, List, None, OnOk, IfOk, false};
+ghost use Rattle.sw_types.specs.Stamp.{greatest_stamp};
+ghost use Rattle.sw_archive.specs.Put.{IsPut};
+ghost use Rattle.sw_message.specs.Transcript.{Step};
+ghost use Rattle.sw_get.specs.declared.end.GetEnd.{GetEnd as AGetEnd};
+ghost use Rattle.sw_nodes.specs.Nodes.{devices_of};
+ghost use Rattle.sw_told.specs.declared.end.OpEnd.TheVariants as ends;
+ghost use Rattle.sw_play.specs.World.{RanDelete, RanGet, RanPut, ended, gets_as};
+
+use std::alloc::Global;
+use sw_delete::DeleteOp;
+use sw_get::GetOp;
+use sw_nodes::{Nodes, run_alone};
+use sw_put::PutOp;
+use sw_told::{EndLine, OpEnd, Told};
+use sw_types::{Items, Name, NoMemory, Object, Stamp};
+
+/// Runs a put.
+pub(crate) fn run_put(
+    alloc: Global,
+    nodes: &mut Nodes,
+    stamp: Stamp,
+    operation: u64,
+    name: &Name,
+    object: &Object,
+) -> Result<Told, NoMemory>
+    requires { stamp ≤ greatest_stamp }
+    ensures runs { IfOk result (λ told. (past : List Step) × RanPut (record { cluster = nodes.old.cluster; stamp = stamp; name = name.now; object = object.now })
+        operation (devices_of nodes.old.nodes) past told (devices_of nodes.new.nodes)) }
+    ensures is_put { OnOk result (IsPut nodes.old.cluster.policy stamp name.now object.now) }
+    ensures goes_on { OnOk result (nodes.new.is_wanting ≡ false) }
+    ensures cluster { nodes.new.cluster ≡ nodes.old.cluster }
+{
+    // The contracts of these say that a name and an object keep their rules.
+    let _path = name.path(alloc)?;
+    let _body = object.body();
+    let mut op = PutOp::begin(alloc, nodes.cluster(), stamp, name, object)?;
+    run_alone(&mut op, nodes)?;
+    let end = op.into_end().unwrap();
+    tell(alloc, operation, OpEnd::Put(end))
+}
+
+/// Runs a delete.
+pub(crate) fn run_delete(
+    alloc: Global,
+    nodes: &mut Nodes,
+    stamp: Stamp,
+    operation: u64,
+    name: &Name,
+) -> Result<Told, NoMemory>
+    ensures runs { IfOk result (λ told. (past : List Step) × RanDelete (record { cluster = nodes.old.cluster; stamp = stamp; name = name.now })
+        operation (devices_of nodes.old.nodes) past told (devices_of nodes.new.nodes)) }
+    ensures goes_on { OnOk result (nodes.new.is_wanting ≡ false) }
+    ensures cluster { nodes.new.cluster ≡ nodes.old.cluster }
+{
+    let mut op = DeleteOp::begin(alloc, nodes.cluster(), stamp, name)?;
+    run_alone(&mut op, nodes)?;
+    let end = op.into_end().unwrap();
+    tell(alloc, operation, OpEnd::Delete(end))
+}
+
+/// Runs a get, or a head where only that is told.
+pub(crate) fn run_get(
+    alloc: Global,
+    nodes: &mut Nodes,
+    operation: u64,
+    name: &Name,
+    is_head: bool,
+) -> Result<Told, NoMemory>
+    ensures runs { IfOk result (λ told. (past : List Step) × RanGet (record { cluster = nodes.old.cluster; name = name.now }) (gets_as is_head)
+        operation (devices_of nodes.old.nodes) past told (devices_of nodes.new.nodes)) }
+    ensures goes_on { OnOk result (nodes.new.is_wanting ≡ false) }
+    ensures cluster { nodes.new.cluster ≡ nodes.old.cluster }
+{
+    let mut op = GetOp::begin(alloc, nodes.cluster(), name)?;
+    run_alone(&mut op, nodes)?;
+    let end = op.into_end().unwrap();
+    let end = if is_head { OpEnd::Head(end) } else { OpEnd::Get(end) };
+    tell(alloc, operation, end)
+}
+
+// The end of an operation, told.
+fn tell(alloc: Global, operation: u64, end: OpEnd) -> Result<Told, NoMemory>
+    ensures { IfOk result (λ told. told ≡ ended operation end) }
+{
+    let mut ends = Vec::new(alloc);
+    ends.push(EndLine { operation, end })?;
+    Ok(Told {
+        ends: Items::from(ends),
+        shown: Items::from(Vec::new(alloc)),
+    })
+}

@@ -1,0 +1,240 @@
+//! The world of a script.
+
+ghost use Rattle.std.specs.Prelude.{◌≡◌, ◌<◌, ◌≤◌, false, true, List, [], IfErr, IfOk, IsErrOf, MatchOption, OnOk};
+ghost use Rattle.std.specs.List.{All};
+ghost use Rattle.sw_types.specs.Stamp.{greatest_stamp};
+ghost use Rattle.sw_hashpath.specs.Place.{folder_of};
+ghost use Rattle.sw_ring.specs.Cluster.{ids_of, place_of_name};
+ghost use Rattle.sw_ring.specs.Ring.{is_among};
+ghost use Rattle.sw_message.specs.Transcript.{Step};
+ghost use Rattle.sw_nodes.specs.Nodes.{devices_of};
+ghost use Rattle.sw_play.specs.Show.{IsReadable, IsShown};
+ghost use Rattle.sw_play.specs.Standing.{StandsFor};
+ghost use Rattle.sw_play.specs.World.{DoesDelete, DoesEvent, DoesGet, DoesPut, DoesShow, World as AWorld, empty_world, is_accepted, is_drawing, next_stamp};
+
+use crate::fault::StepFault;
+use crate::running::{run_delete, run_get, run_put};
+use crate::show::shown;
+use std::alloc::Global;
+use std::marker::Model;
+use sw_nodes::Nodes;
+use sw_ring::Cluster;
+use sw_script::{Event, Job};
+use sw_told::Told;
+use sw_types::{Items, Name, NoMemory, Object, Stamp};
+
+/// What the clock shows, in units of 10 microseconds: 1000000000.00000.
+const CLOCK: u64 = 100_000_000_000_000;
+
+/// A cluster whose nodes stand in one process, the last stamp that was drawn, and how many operations were started.
+#[derive(Drop)]
+pub struct World {
+    alloc: Global,
+    nodes: Nodes,
+    last: Option<Stamp>,
+    operations: u64,
+}
+
+impl Model for World {
+    ghost use Rattle.sw_play.specs.Standing.{IsWorld, WorldModel};
+    ghost use Rattle.sw_play.specs.WorldInside.{world_seen};
+
+    ghost Value = { WorldModel };
+
+    ghost view = { world_seen };
+
+    ghost invariant = { λ world. IsWorld (world_seen world) };
+}
+
+impl World {
+    /// A world of a cluster in which nothing was started, and whose disks are empty.
+    pub fn new(alloc: Global, cluster: Cluster) -> Result<World, NoMemory>
+        ensures cluster { IfOk result (λ world. world.cluster ≡ cluster) }
+        ensures stands { IfOk result (λ world. StandsFor world empty_world) }
+    {
+        Ok(World {
+            alloc,
+            nodes: Nodes::new(alloc, cluster)?,
+            last: None,
+            operations: 0,
+        })
+    }
+
+    /// Its cluster.
+    pub fn cluster(&self) -> &Cluster
+        ensures { result.now ≡ self.now.cluster }
+    {
+        self.nodes.cluster()
+    }
+
+    /// Whether scripts of the cluster have such an event.
+    pub fn accepts(&self, event: &Event) -> bool
+        ensures { result ≡ is_accepted self.now.cluster event.now }
+    {
+        match event {
+            Event::Run(Job::Recon { .. }) => false,
+            Event::Run(_) => true,
+            Event::Show { device, name: _ } => self.has_device(*device),
+            _ => false,
+        }
+    }
+
+    /// Has it answer that memory is wanted from now on.
+    pub(crate) fn give_up(&mut self)
+        ensures wants { self.new.is_wanting ≡ true }
+        ensures cluster { self.new.cluster ≡ self.old.cluster }
+    {
+        self.nodes.give_up();
+    }
+
+    // Whether a number is that of a device of the cluster.
+    fn has_device(&self, number: u64) -> bool
+        ensures { result ≡ is_among (ids_of self.now.cluster) number }
+    {
+        self.cluster()
+            .devices()
+            .iter()
+            .any(|device| u64::from(device.id) == number)
+    }
+
+    /// Does an event, and answers what is told of it. Where the stamps are spent the world is as before. Once it wanted memory it
+    /// answers so from then on.
+    pub fn step(&mut self, event: &Event) -> Result<Told, StepFault>
+        requires accepted { is_accepted self.old.cluster event.now ≡ true }
+        ensures does { (before : AWorld) → StandsFor self.old before →
+            IfOk result (λ told. (past : List Step) × (after : AWorld) × DoesEvent self.old.cluster before event.now past told after × StandsFor self.new after) }
+        ensures spent { IsErrOf result StepFault.StampsSpent → (is_drawing event.now ≡ true) × (greatest_stamp < next_stamp self.old.last) × (self.new ≡ self.old) }
+        ensures wants { IsErrOf result StepFault.NoMemory → self.new.is_wanting ≡ true }
+        ensures goes_on { OnOk result (self.old.is_wanting ≡ false) }
+        ensures cluster { self.new.cluster ≡ self.old.cluster }
+    {
+        if self.nodes.is_wanting() {
+            return Err(StepFault::NoMemory);
+        }
+        match event {
+            Event::Run(Job::Put { name, object }) => self.put(name, object),
+            Event::Run(Job::Delete(name)) => self.delete(name),
+            Event::Run(Job::Get(name)) => self.get(name, false),
+            Event::Run(Job::Head(name)) => self.get(name, true),
+            Event::Show { device, name } => self.show(*device, name),
+            _ => unreachable!(),
+        }
+    }
+
+    // Puts an object.
+    fn put(&mut self, name: &Name, object: &Object) -> Result<Told, StepFault>
+        requires { self.old.is_wanting ≡ false }
+        ensures does { (before : AWorld) → StandsFor self.old before →
+            IfOk result (λ told. (past : List Step) × (after : AWorld) × DoesPut self.old.cluster before name.now object.now past told after × StandsFor self.new after) }
+        ensures spent { IsErrOf result StepFault.StampsSpent → (greatest_stamp < next_stamp self.old.last) × (self.new ≡ self.old) }
+        ensures wants { IsErrOf result StepFault.NoMemory → self.new.is_wanting ≡ true }
+        ensures cluster { self.new.cluster ≡ self.old.cluster }
+    {
+        let Some(stamp) = next_stamp(self.last) else {
+            return Err(StepFault::StampsSpent);
+        };
+        let operation = self.operations.saturating_add(1);
+        match run_put(self.alloc, &mut self.nodes, stamp, operation, name, object) {
+            Ok(told) => {
+                self.last = Some(stamp);
+                self.operations = operation;
+                Ok(told)
+            }
+            Err(NoMemory) => {
+                self.nodes.give_up();
+                Err(StepFault::NoMemory)
+            }
+        }
+    }
+
+    // Deletes a name.
+    fn delete(&mut self, name: &Name) -> Result<Told, StepFault>
+        requires { self.old.is_wanting ≡ false }
+        ensures does { (before : AWorld) → StandsFor self.old before →
+            IfOk result (λ told. (past : List Step) × (after : AWorld) × DoesDelete self.old.cluster before name.now past told after × StandsFor self.new after) }
+        ensures spent { IsErrOf result StepFault.StampsSpent → (greatest_stamp < next_stamp self.old.last) × (self.new ≡ self.old) }
+        ensures wants { IsErrOf result StepFault.NoMemory → self.new.is_wanting ≡ true }
+        ensures cluster { self.new.cluster ≡ self.old.cluster }
+    {
+        let Some(stamp) = next_stamp(self.last) else {
+            return Err(StepFault::StampsSpent);
+        };
+        let operation = self.operations.saturating_add(1);
+        match run_delete(self.alloc, &mut self.nodes, stamp, operation, name) {
+            Ok(told) => {
+                self.last = Some(stamp);
+                self.operations = operation;
+                Ok(told)
+            }
+            Err(NoMemory) => {
+                self.nodes.give_up();
+                Err(StepFault::NoMemory)
+            }
+        }
+    }
+
+    // Gets an object, or its head.
+    fn get(&mut self, name: &Name, is_head: bool) -> Result<Told, StepFault>
+        requires { self.old.is_wanting ≡ false }
+        ensures does { (before : AWorld) → StandsFor self.old before →
+            IfOk result (λ told. (past : List Step) × (after : AWorld) × DoesGet self.old.cluster before name.now is_head past told after × StandsFor self.new after) }
+        ensures fault { IfErr result (λ fault. (fault ≡ StepFault.NoMemory) × (self.new.is_wanting ≡ true)) }
+        ensures cluster { self.new.cluster ≡ self.old.cluster }
+    {
+        let operation = self.operations.saturating_add(1);
+        match run_get(self.alloc, &mut self.nodes, operation, name, is_head) {
+            Ok(told) => {
+                self.operations = operation;
+                Ok(told)
+            }
+            Err(NoMemory) => {
+                self.nodes.give_up();
+                Err(StepFault::NoMemory)
+            }
+        }
+    }
+
+    // Shows what a device of the cluster has of a name.
+    fn show(&mut self, number: u64, name: &Name) -> Result<Told, StepFault>
+        requires goes_on { self.old.is_wanting ≡ false }
+        requires member { is_among (ids_of self.old.cluster) number ≡ true }
+        ensures does { (before : AWorld) → StandsFor self.old before →
+            IfOk result (λ told. (past : List Step) × (after : AWorld) × DoesShow self.old.cluster before number name.now past told after × StandsFor self.new after) }
+        ensures fault { IfErr result (λ fault. (fault ≡ StepFault.NoMemory) × (self.new.is_wanting ≡ true)) }
+        ensures cluster { self.new.cluster ≡ self.old.cluster }
+    {
+        match show_at(self.alloc, &self.nodes, number, name) {
+            Ok(told) => Ok(told),
+            Err(NoMemory) => {
+                self.nodes.give_up();
+                Err(StepFault::NoMemory)
+            }
+        }
+    }
+}
+
+// What a device of the cluster has of a name, told.
+fn show_at(alloc: Global, nodes: &Nodes, number: u64, name: &Name) -> Result<Told, NoMemory>
+    requires member { is_among (ids_of nodes.now.cluster) number ≡ true }
+    requires readable { All IsReadable (devices_of nodes.now.nodes number (folder_of (place_of_name nodes.now.cluster name.now))) }
+    ensures no_ends { IfOk result (λ told. told.ends ≡ []) }
+    ensures shown { IfOk result (λ told. IsShown number (devices_of nodes.now.nodes number (folder_of (place_of_name nodes.now.cluster name.now))) told.shown) }
+{
+    let device = number as u16;
+    let place = nodes.cluster().place(alloc, name)?;
+    let disk = nodes.disk(device).unwrap();
+    Ok(Told {
+        ends: Items::from(Vec::new(alloc)),
+        shown: shown(alloc, disk, device, place)?,
+    })
+}
+
+// The stamp of the next put or delete: none where the stamps are spent.
+fn next_stamp(last: Option<Stamp>) -> Option<Stamp>
+    ensures { MatchOption result (greatest_stamp < next_stamp last) (λ stamp. (stamp ≡ next_stamp last) × (stamp ≤ greatest_stamp)) }
+{
+    match last {
+        None => Stamp::make(CLOCK),
+        Some(last) => Stamp::make((last.units() + 1).max(CLOCK)),
+    }
+}

@@ -1,0 +1,8 @@
+use Rattle.std.proofs.Common.{◌++◌, codes, ap, ◌∙◌, subst}
+use Rattle.std.specs.Prelude.{OnOk}
+use Rattle.sw_told.proofs.end.add_unanswered.Goals as goal
+
+pub returns : goal.returns
+returns c =
+    let text = c.as_bytes.ensures.value ∙ c.in_ok-text.ensures.ok ∙ ap (λ devices. codes "unanswered " ++ devices) c.in_ok-devices.ensures in
+    rw text at c.extend_from_slice.ensures.ok

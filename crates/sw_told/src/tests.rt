@@ -1,0 +1,206 @@
+//! A line of each kind.
+
+use crate::{EndLine, OpEnd, ShowLine, Told};
+use std::alloc::Global;
+use std::test::Fail;
+use sw_delete::DeleteEnd;
+use sw_get::GetEnd;
+use sw_hashdir::{Entry, Floor, FloorKind};
+use sw_message::{Miss, Target};
+use sw_put::PutEnd;
+use sw_types::{Bytes, Head, Items, Object, Stamp};
+
+// What is to be printed, behind the text that stands before it.
+const TEXT: &str = "before\n\
+    e 1 created 1000000000.00000 3\n\
+    e 2 superseded 1000000000.00001\n\
+    e 3 too-few-synced 2\n\
+    e 4 too-few-commits 1\n\
+    e 5 found 1000000000.00000 616263 0,1\n\
+    e 6 found 1000000000.00000 - 12\n\
+    e 7 absent\n\
+    e 8 buried 1000000000.00001\n\
+    e 9 unanswered 0,1\n\
+    e 10 too-few 1000000000.00000 1\n\
+    e 11 overtaken\n\
+    e 12 head 1000000000.00000 0 d41d8cd98f00b204e9800998ecf8427e\n\
+    e 13 head 1000000000.00000 3 900150983cd24fb0d6963f7d28e17f72\n\
+    e 14 absent\n\
+    e 15 deleted 1000000000.00001 3 yes\n\
+    e 16 deleted 1000000000.00001 2 no\n\
+    e 17 superseded 1000000000.00001\n\
+    e 18446744073709551615 too-few-marks 0\n\
+    s 3 0 1000000000.00000 durable 6162\n\
+    s 3 11 1000000000.00000 plain -\n\
+    s 2 - 1000000000.00001 tombstone\n\
+    s 63 empty\n";
+
+fn created() -> Result<Stamp, Fail> {
+    Ok(Stamp::make(100_000_000_000_000).ok_or("stamp")?)
+}
+
+fn deleted() -> Result<Stamp, Fail> {
+    Ok(Stamp::make(100_000_000_000_001).ok_or("stamp")?)
+}
+
+fn floor() -> Result<Floor, Fail> {
+    Ok(Floor {
+        stamp: deleted()?,
+        kind: FloorKind::Tombstone,
+    })
+}
+
+fn misses(alloc: Global) -> Result<Items<(u16, Miss)>, Fail> {
+    let misses = vec![in alloc; (1, Miss::NoReply), (0, Miss::DiskFault), (1, Miss::Odd)]?;
+    Ok(Items::from(misses))
+}
+
+fn puts(alloc: Global) -> Result<Vec<OpEnd>, Fail> {
+    let ends = vec![in alloc;
+        OpEnd::Put(PutEnd::Created {
+            stamp: created()?,
+            commits: 3
+        }),
+        OpEnd::Put(PutEnd::Superseded { floor: floor()? }),
+        OpEnd::Put(PutEnd::TooFewSynced {
+            have: 2,
+            misses: misses(alloc)?
+        }),
+        OpEnd::Put(PutEnd::TooFewCommits {
+            have: 1,
+            misses: misses(alloc)?
+        }),
+    ]?;
+    Ok(ends)
+}
+
+// An object of this body, found in archives of these indices.
+fn found(alloc: Global, body: &[u8], indices: &[u32]) -> Result<GetEnd, Fail> {
+    let head = Head::make(alloc, b"text/plain", &[])?;
+    let object = Object::make(head, Bytes::from_slice(alloc, body)?)
+        .ok()
+        .ok_or("too long")?;
+    let mut sources = Vec::new(alloc);
+    for index in indices {
+        sources.push(Target {
+            index: *index,
+            device: 7,
+        })?;
+    }
+    Ok(GetEnd::Found {
+        stamp: created()?,
+        object,
+        sources: Items::from(sources),
+    })
+}
+
+fn gets(alloc: Global) -> Result<Vec<OpEnd>, Fail> {
+    let ends = vec![in alloc;
+        OpEnd::Get(found(alloc, b"abc", &[0, 1])?),
+        OpEnd::Get(found(alloc, b"", &[12])?),
+        OpEnd::Get(GetEnd::Absent),
+        OpEnd::Get(GetEnd::Buried { stamp: deleted()? }),
+        OpEnd::Get(GetEnd::Unanswered {
+            misses: misses(alloc)?
+        }),
+        OpEnd::Get(GetEnd::TooFew {
+            stamp: created()?,
+            have: 1
+        }),
+        OpEnd::Get(GetEnd::Overtaken {
+            events: Items::from(Vec::new(alloc))
+        }),
+    ]?;
+    Ok(ends)
+}
+
+fn heads(alloc: Global) -> Result<Vec<OpEnd>, Fail> {
+    let ends = vec![in alloc;
+        OpEnd::Head(found(alloc, b"", &[0, 1])?),
+        OpEnd::Head(found(alloc, b"abc", &[0, 1])?),
+        OpEnd::Head(GetEnd::Absent),
+    ]?;
+    Ok(ends)
+}
+
+fn deletes(alloc: Global) -> Result<Vec<OpEnd>, Fail> {
+    let stamp = deleted()?;
+    let ends = vec![in alloc;
+        OpEnd::Delete(DeleteEnd::Deleted {
+            stamp,
+            marks: 3,
+            existed: true
+        }),
+        OpEnd::Delete(DeleteEnd::Deleted {
+            stamp,
+            marks: 2,
+            existed: false
+        }),
+        OpEnd::Delete(DeleteEnd::Superseded { floor: floor()? }),
+    ]?;
+    Ok(ends)
+}
+
+// Each end with its number, from 1, and the last one with the greatest.
+fn ends(alloc: Global) -> Result<Vec<EndLine>, Fail> {
+    let mut lines = Vec::new(alloc);
+    let mut numbers = 1..u64::MAX;
+    for ends in [puts(alloc)?, gets(alloc)?, heads(alloc)?, deletes(alloc)?] {
+        for end in ends {
+            let operation = numbers.next().ok_or("number")?;
+            lines.push(EndLine { operation, end })?;
+        }
+    }
+    let end = OpEnd::Delete(DeleteEnd::TooFewMarks {
+        have: 0,
+        misses: misses(alloc)?,
+    });
+    lines.push(EndLine {
+        operation: u64::MAX,
+        end,
+    })?;
+    Ok(lines)
+}
+
+fn shown(alloc: Global) -> Result<Vec<ShowLine>, Fail> {
+    let stamp = created()?;
+    let lines = vec![in alloc;
+        ShowLine::Stored {
+            device: 3,
+            entry: Entry {
+                stamp,
+                index: 0,
+                durable: true
+            },
+            payload: Bytes::from_slice(alloc, b"ab")?,
+        },
+        ShowLine::Stored {
+            device: 3,
+            entry: Entry {
+                stamp,
+                index: 11,
+                durable: false
+            },
+            payload: Bytes::new(alloc),
+        },
+        ShowLine::Buried {
+            device: 2,
+            stamp: deleted()?
+        },
+        ShowLine::Empty { device: 63 },
+    ]?;
+    Ok(lines)
+}
+
+#[test]
+fn prints_a_line_of_each_kind(rt: HostRuntime) -> Result<(), Fail> {
+    let alloc = rt.alloc();
+    let told = Told {
+        ends: Items::from(ends(alloc)?),
+        shown: Items::from(shown(alloc)?),
+    };
+    let mut text = Bytes::from_slice(alloc, b"before\n")?;
+    told.print(alloc, &mut text)?;
+    assert_eq!(rt; str::from_utf8(text.as_slice()).ok(), Some(TEXT));
+    Ok(())
+}

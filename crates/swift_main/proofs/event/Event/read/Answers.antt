@@ -1,9 +1,0 @@
-use Rattle.std.proofs.Common.{List, ℕ, arith, length, map, subst, sym}
-use denote.Bor.{Bor}
-use Rattle.swift_main.proofs.ShortWords.{AreShort, longer}
-use Rattle.swift_main.proofs.event.Event.read.Goals as goal
-
-pub read_words-requires : goal.read_words-requires
-read_words-requires c =
-    subst (λ (words : List (Bor (List ℕ))). AreShort 65536 (map (λ (word : Bor (List ℕ)). word.now) words)) (sym c.deref.ensures.value)
-    (longer (length c.args.line.now) 65536 (map (λ (word : Bor (List ℕ)). word.now) c.in_ok-words.words.items) (omega arith) c.in_ok-words.ensures.short)
