@@ -1,12 +1,9 @@
 -- The calls of an operation that runs alone: each message was handled at once.
-use Rattle.std.proofs.Common.{◌≡◌, ℕ, false, List, [], ◌∷◌, ◌++◌, Option, None, Some, refl, sym, ap, subst, ◌∙◌}
-use Rattle.std.proofs.lemmas.List.{append-nil}
+use Rattle.std.proofs.Common.{◌≡◌, ℕ, false, List, [], ◌∷◌, Option, refl, sym, ap, subst, ◌∙◌}
 use Rattle.sw_ring.specs.Cluster.{ClusterModel}
 use Rattle.sw_message.specs.Running.{AreCalls}
 use Rattle.sw_message.specs.Transcript.{Gave, Step, Told}
-use Rattle.sw_message.specs.declared.message.Msg.{Msg}
 use Rattle.sw_message.specs.declared.reply.Reply.{Reply}
-use Rattle.sw_message.specs.declared.sent.Sent.{Sent}
 use Rattle.sw_scene.specs.Devices.{AreSame, IsHandledBy}
 use Rattle.sw_scene.specs.Running.{AreHandled}
 use Rattle.sw_nodes.specs.Nodes.{Calls, NodesModel, devices_of}

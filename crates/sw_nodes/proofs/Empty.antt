@@ -1,5 +1,5 @@
 -- An empty disk in memory, once it is mounted, is still empty.
-use Rattle.std.proofs.Common.{◌≡◌, inl, inr, ⊎_elim, ℕ, List, [], ◌∷◌, ◌++◌, Contains, map, Option, None, Some, refl, sym, ap, subst, ◌∙◌, append-nil}
+use Rattle.std.proofs.Common.{◌≡◌, inl, inr, ℕ, List, [], ◌∷◌, ◌++◌, map, None, refl, sym, ap, subst, ◌∙◌, append-nil}
 use Rattle.sw_disk.specs.Answers.{AreFolders}
 use Rattle.sw_disk.specs.Calls.{Call, ListFolders, Step, Do, calls_in}
 use Rattle.sw_disk.specs.Folder.{Folder, files_of}

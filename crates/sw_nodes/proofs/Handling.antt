@@ -1,7 +1,7 @@
 -- A node that handles a message, among the nodes of its cluster.
-use Rattle.std.proofs.Common.{◌≡◌, ◌≢◌, inl, inr, ℕ, zero, suc, ◌<◌, ◌-◌, ◌==◌, ◌||◌, Bool, true, false, List, [], ◌∷◌, length, get_or, map, Option, None, Some, refl, sym, ap, subst, ◌∙◌, arith}
+use Rattle.std.proofs.Common.{◌≡◌, ◌≢◌, inl, inr, ℕ, ◌<◌, ◌-◌, ◌==◌, ◌||◌, Bool, true, false, List, [], ◌∷◌, length, get_or, map, Option, None, Some, refl, sym, ap, subst, ◌∙◌, arith}
 use Rattle.std.specs.Prelude.{IfSome, IsSome, is_some}
-use Rattle.std.specs.List.{All, AllPairs, find, list_any, position, slice_get, slice_set}
+use Rattle.std.specs.List.{All, AllPairs, list_any, position, slice_get}
 use Rattle.std.proofs.Math.Seq.{map-set_same}
 use Rattle.std.proofs.lemmas.Bool.{cases_Bool, eqb-true, true≢false}
 use Rattle.std.proofs.lemmas.List.{get_or-map, length-map}
@@ -15,11 +15,9 @@ use Rattle.sw_ring.specs.Cluster.{ClusterModel, ids_of}
 use Rattle.sw_ring.specs.Rules.{device_ids}
 use Rattle.sw_ring.specs.declared.device.Device.{Device}
 use Rattle.sw_message.specs.Message.{IsMember}
-use Rattle.sw_message.specs.Step.{Folders, IsNodeStep}
+use Rattle.sw_message.specs.Step.{IsNodeStep}
 use Rattle.sw_message.specs.declared.message.Msg.{Msg}
 use Rattle.sw_message.specs.declared.reply.Reply.{Reply}
-use Rattle.sw_message.specs.declared.reply.Reply.TheVariants.{DiskFault, NoMemory}
-use Rattle.sw_objsrv.specs.Handling.{folders_of}
 use Rattle.sw_objsrv.specs.Node.{Handled, HandlesWhenMounted, IsByTable, IsNode}
 use Rattle.sw_objsrv.proofs.Roles.{position_any}
 use Rattle.sw_scene.specs.Devices.{IsFree, IsHandledBy, capacity_of}
@@ -50,15 +48,20 @@ when_mounted cluster msg reply old new mounted (inr due) = absurd (true≢false 
 
 -- ---- the node of a device
 
+-- some device has an id where it is among theirs
+any_id : (id : ℕ) (devices : List Device) → list_any (λ (other : ℕ). other == id) (device_ids devices) ≡ list_any (λ (other : Device). other.id == id) devices
+any_id id [] = refl
+any_id id (first ∷ devices) = ap (λ rest. (first.id == id) || rest) (any_id id devices)
+
+-- it has a place there
+pub some_place : (id : ℕ) (devices : List Device) → is_some (position (λ (other : Device). other.id == id) devices) ≡ list_any (λ (other : ℕ). other == id) (device_ids devices)
+some_place id devices = position_any (λ (other : Device). other.id == id) devices ∙ sym (any_id id devices)
+
 module _ (all : NodesModel) (are : AreNodes all) (device : ℕ) where
   -- a device of the cluster has a place among its devices
   pub placed : IsMember all.cluster device → IsSome (position (λ (other : Device). other.id == device) all.cluster.devices)
-  placed member = some (position (λ (other : Device). other.id == device) all.cluster.devices) (position_any (λ (other : Device). other.id == device) all.cluster.devices ∙ sym (any_id all.cluster.devices) ∙ member)
+  placed member = some (position (λ (other : Device). other.id == device) all.cluster.devices) (some_place device all.cluster.devices ∙ member)
     where
-      any_id : (devices : List Device) → list_any (λ (other : ℕ). other == device) (device_ids devices) ≡ list_any (λ (other : Device). other.id == device) devices
-      any_id [] = refl
-      any_id (first ∷ devices) = ap (λ rest. (first.id == device) || rest) (any_id devices)
-
       some : (found : Option ℕ) → is_some found ≡ true → IsSome found
       some None is = absurd (cc)
       some (Some place) is = refl

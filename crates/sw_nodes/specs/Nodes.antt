@@ -1,5 +1,5 @@
 -- What contracts see of the nodes of a cluster, and how one of them handles a message.
-use Rattle.std.specs.Prelude.{◌≡◌, ◌⊎◌, ℕ, ◌==◌, Bool, true, false, List, [], find, map, slice_get, slice_set, Option, Some, None}
+use Rattle.std.specs.Prelude.{◌≡◌, ℕ, ◌==◌, Bool, true, false, List, [], find, map, slice_get, slice_set, Option, Some, None}
 use Rattle.std.specs.List.{All}
 use Rattle.sw_memdisk.specs.Memory.{LeftBy, MemDiskModel, seen_of, state_of}
 use Rattle.sw_ring.specs.Cluster.{ClusterModel, KeepsRules, ids_of}

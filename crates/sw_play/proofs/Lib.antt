@@ -4,3 +4,7 @@ pub mod Progress
 pub mod Sounding
 pub mod ShownLines
 pub mod ShownNames
+pub mod Ran
+pub mod Stepping
+pub mod Lining
+pub mod Filing

@@ -1,5 +1,5 @@
 -- A script of which some first lines were done.
-use Rattle.std.proofs.Common.{◌≡◌, ◌≢◌, ℕ, ◌+◌, ◌<◌, true, List, [], ◌∷◌, ◌++◌, length, map, take, Option, None, Some, Result, Ok, Err, refl, sym, ap, subst, ◌∙◌, append_assoc, append-nil, arith}
+use Rattle.std.proofs.Common.{◌≡◌, ◌≢◌, ℕ, ◌+◌, ◌<◌, true, List, [], ◌∷◌, ◌++◌, length, take, Option, None, Some, Result, Ok, Err, refl, sym, ap, subst, ◌∙◌, append_assoc, append-nil}
 use Rattle.std.specs.Prelude.{option_to_list}
 use Rattle.std.specs.List.{slice_get}
 use Rattle.std.proofs.lemmas.List.{map-append, take_at}
@@ -8,7 +8,7 @@ use Rattle.sw_ring.specs.Cluster.{ClusterModel}
 use Rattle.sw_script.specs.declared.event.Event.{Event}
 use Rattle.sw_script.specs.declared.fault.LineFault.{LineFault}
 use Rattle.sw_play.specs.Lines.{DoesLine}
-use Rattle.sw_play.specs.Play.{EndsBy, IsSpent, Played, events_of}
+use Rattle.sw_play.specs.Play.{EndsBy, Played, events_of}
 use Rattle.sw_play.specs.Script.{Fault, Lined, events_from, fault_before, fault_from, line_event, lined_before}
 use Rattle.sw_play.specs.Standing.{StandsFor, WorldModel}
 use Rattle.sw_play.specs.Story.{AreDone, Done, events_in, story_text}

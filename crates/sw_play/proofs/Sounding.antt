@@ -1,5 +1,5 @@
 -- Each event leaves a sound world sound, and what a get finds in one is one put's.
-use Rattle.std.proofs.Common.{◌≡◌, inl, inr, ⊎_elim, ℕ, zero, suc, ◌+◌, ◌<◌, ◌≤◌, Bool, true, false, max, List, [], ◌∷◌, ◌++◌, length, Contains, Option, None, Some, refl, sym, ap, subst, ◌∙◌, arith}
+use Rattle.std.proofs.Common.{◌≡◌, inl, inr, ⊎_elim, ℕ, zero, suc, ◌<◌, ◌≤◌, Bool, true, false, List, [], ◌∷◌, ◌++◌, length, Contains, Option, None, Some, refl, sym, ap, subst, ◌∙◌, arith}
 use Rattle.std.proofs.lemmas.List.Elements.{Contains-append_cases, Contains-append_left, Contains-append_right}
 use Rattle.sw_types.specs.Name.{NameModel}
 use Rattle.sw_types.specs.Object.{ObjectModel}
@@ -7,7 +7,6 @@ use Rattle.sw_archive.specs.Put.{IsPut}
 use Rattle.sw_ring.specs.Cluster.{ClusterModel}
 use Rattle.sw_message.specs.Learnt.{Booked}
 use Rattle.sw_message.specs.Transcript.{Step}
-use Rattle.sw_message.specs.Warrant.{IsOfPut}
 use Rattle.sw_message.specs.declared.target.Target.{Target}
 use Rattle.sw_get.specs.Causes.{IsPutFound}
 use Rattle.sw_get.specs.Get.{IsEnd, IsNext}
@@ -23,10 +22,10 @@ use Rattle.sw_script.specs.declared.event.Job.{Job}
 use Rattle.sw_script.specs.declared.event.Job.TheVariants as job
 use Rattle.sw_told.specs.declared.end.EndLine.{EndLine}
 use Rattle.sw_told.specs.declared.end.OpEnd.{OpEnd}
-use Rattle.sw_told.specs.declared.end.OpEnd.TheVariants.{Put, Get, Head, Delete}
+use Rattle.sw_told.specs.declared.end.OpEnd.TheVariants.{Put, Delete}
 use Rattle.sw_told.specs.declared.told.Told.{Told}
-use Rattle.sw_play.specs.Story.{AllTellOnePut, AreDone, Done, IfFound, IfFoundEnd, IsOfName, TellsOnePut}
-use Rattle.sw_play.specs.World.{DoesDelete, DoesEvent, DoesGet, DoesPut, DoesShow, IsDrawn, IsSound, World, ended, get_of, gets_as, next_stamp, put_of}
+use Rattle.sw_play.specs.Story.{AllTellOnePut, AreDone, Done, IfFound, IfFoundEnd, IsOfName}
+use Rattle.sw_play.specs.World.{DoesDelete, DoesEvent, DoesGet, DoesPut, IsDrawn, IsSound, World, ended, get_of, gets_as, next_stamp, put_of}
 
 -- ---- stamps
 

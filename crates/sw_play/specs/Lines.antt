@@ -1,5 +1,5 @@
 -- What one line of a script does to a world and to the text of what is told.
-use Rattle.std.specs.Prelude.{◌≡◌, ◌≢◌, ◌<◌, true, List, [], ◌++◌, ℕ, Option, Some, None, Ok, Err, option_to_list}
+use Rattle.std.specs.Prelude.{◌≡◌, ◌≢◌, ◌<◌, true, List, ◌++◌, ℕ, Option, Some, Ok, Err, option_to_list}
 use Rattle.sw_types.specs.Stamp.{greatest_stamp}
 use Rattle.sw_ring.specs.Cluster.{ClusterModel}
 use Rattle.sw_message.specs.Transcript.{Step}

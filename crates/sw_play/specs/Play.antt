@@ -1,5 +1,5 @@
 -- What a script does to a world and to the text of what is told.
-use Rattle.std.specs.Prelude.{◌≡◌, ℕ, ◌<◌, true, false, List, ◌++◌, map, take, slice_get, Some, None}
+use Rattle.std.specs.Prelude.{◌≡◌, ℕ, ◌<◌, true, List, ◌++◌, map, take, slice_get, Some, None}
 use Rattle.sw_words.specs.Memory.{UnlessMemory}
 use Rattle.sw_types.specs.Stamp.{greatest_stamp}
 use Rattle.sw_ring.specs.Cluster.{ClusterModel}

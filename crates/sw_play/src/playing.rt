@@ -67,12 +67,7 @@ enum LineStop {
 }
 
 // Does the event of a line, if it tells one, and adds what is told of it to the text.
-fn do_line(
-    alloc: Global,
-    line: &[u8],
-    world: &mut World,
-    text: &mut Bytes,
-) -> Result<(), LineStop>
+fn do_line(alloc: Global, line: &[u8], world: &mut World, text: &mut Bytes) -> Result<(), LineStop>
     ensures ok { (before : AWorld) → StandsFor world.old before → OnOk result (DoesLine world.old.cluster before line.now world.new text.old text.new) }
     ensures stops { IfErr result (λ stop. StopsLine line.now stop world.old world.new) }
     ensures text { OnErr result (text.new ≡ text.old) }

@@ -4,14 +4,12 @@ ghost use Rattle.std.specs.Prelude.{◌≡◌, ◌≤◌, List, None, OnOk, IfOk
 ghost use Rattle.sw_types.specs.Stamp.{greatest_stamp};
 ghost use Rattle.sw_archive.specs.Put.{IsPut};
 ghost use Rattle.sw_message.specs.Transcript.{Step};
-ghost use Rattle.sw_get.specs.declared.end.GetEnd.{GetEnd as AGetEnd};
 ghost use Rattle.sw_nodes.specs.Nodes.{devices_of};
-ghost use Rattle.sw_told.specs.declared.end.OpEnd.TheVariants as ends;
 ghost use Rattle.sw_play.specs.World.{RanDelete, RanGet, RanPut, ended, gets_as};
 
 use std::alloc::Global;
 use sw_delete::DeleteOp;
-use sw_get::GetOp;
+use sw_get::{GetEnd, GetOp};
 use sw_nodes::{Nodes, run_alone};
 use sw_put::PutOp;
 use sw_told::{EndLine, OpEnd, Told};
@@ -77,8 +75,18 @@ pub(crate) fn run_get(
     let mut op = GetOp::begin(alloc, nodes.cluster(), name)?;
     run_alone(&mut op, nodes)?;
     let end = op.into_end().unwrap();
-    let end = if is_head { OpEnd::Head(end) } else { OpEnd::Get(end) };
-    tell(alloc, operation, end)
+    tell(alloc, operation, gets_as(is_head, end))
+}
+
+// The end of a get, or of a head.
+fn gets_as(is_head: bool, end: GetEnd) -> OpEnd
+    ensures { result ≡ gets_as is_head end }
+{
+    if is_head {
+        OpEnd::Head(end)
+    } else {
+        OpEnd::Get(end)
+    }
 }
 
 // The end of an operation, told.

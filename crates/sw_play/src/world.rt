@@ -1,16 +1,19 @@
 //! The world of a script.
 
-ghost use Rattle.std.specs.Prelude.{◌≡◌, ◌<◌, ◌≤◌, false, true, List, [], IfErr, IfOk, IsErrOf, MatchOption, OnOk};
+ghost use Rattle.std.specs.Prelude.{◌≡◌, ◌<◌, ◌≤◌, ◌==◌, false, true, List, [], IfErr, IfOk, IfSome, IsErrOf, MatchOption, OnOk, is_some, position};
 ghost use Rattle.std.specs.List.{All};
 ghost use Rattle.sw_types.specs.Stamp.{greatest_stamp};
 ghost use Rattle.sw_hashpath.specs.Place.{folder_of};
 ghost use Rattle.sw_ring.specs.Cluster.{ids_of, place_of_name};
 ghost use Rattle.sw_ring.specs.Ring.{is_among};
+ghost use Rattle.sw_ring.specs.Rules.{device_ids};
+ghost use Rattle.sw_message.specs.Message.{IsMember};
 ghost use Rattle.sw_message.specs.Transcript.{Step};
 ghost use Rattle.sw_nodes.specs.Nodes.{devices_of};
+ghost use Rattle.sw_script.specs.declared.event.Event.TheVariants.{Run};
 ghost use Rattle.sw_play.specs.Show.{IsReadable, IsShown};
 ghost use Rattle.sw_play.specs.Standing.{StandsFor};
-ghost use Rattle.sw_play.specs.World.{DoesDelete, DoesEvent, DoesGet, DoesPut, DoesShow, World as AWorld, empty_world, is_accepted, is_drawing, next_stamp};
+ghost use Rattle.sw_play.specs.World.{DoesDelete, DoesEvent, DoesGet, DoesJob, DoesPut, DoesShow, World as AWorld, empty_world, is_accepted, is_drawing, is_known_job, next_stamp};
 
 use crate::fault::StepFault;
 use crate::running::{run_delete, run_get, run_put};
@@ -18,7 +21,7 @@ use crate::show::shown;
 use std::alloc::Global;
 use std::marker::Model;
 use sw_nodes::Nodes;
-use sw_ring::Cluster;
+use sw_ring::{Cluster, Device};
 use sw_script::{Event, Job};
 use sw_told::Told;
 use sw_types::{Items, Name, NoMemory, Object, Stamp};
@@ -74,7 +77,7 @@ impl World {
         match event {
             Event::Run(Job::Recon { .. }) => false,
             Event::Run(_) => true,
-            Event::Show { device, name: _ } => self.has_device(*device),
+            Event::Show { device, name: _ } => self.device_of(*device).is_some(),
             _ => false,
         }
     }
@@ -87,14 +90,12 @@ impl World {
         self.nodes.give_up();
     }
 
-    // Whether a number is that of a device of the cluster.
-    fn has_device(&self, number: u64) -> bool
-        ensures { result ≡ is_among (ids_of self.now.cluster) number }
+    // The device of the cluster that has a number.
+    fn device_of(&self, number: u64) -> Option<u16>
+        ensures known { is_some result ≡ is_among (ids_of self.now.cluster) number }
+        ensures id { IfSome result (λ id. id ≡ number) }
     {
-        self.cluster()
-            .devices()
-            .iter()
-            .any(|device| u64::from(device.id) == number)
+        device_among(self.cluster().devices(), number)
     }
 
     /// Does an event, and answers what is told of it. Where the stamps are spent the world is as before. Once it wanted memory it
@@ -112,12 +113,28 @@ impl World {
             return Err(StepFault::NoMemory);
         }
         match event {
-            Event::Run(Job::Put { name, object }) => self.put(name, object),
-            Event::Run(Job::Delete(name)) => self.delete(name),
-            Event::Run(Job::Get(name)) => self.get(name, false),
-            Event::Run(Job::Head(name)) => self.get(name, true),
+            Event::Run(job) => self.run(job),
             Event::Show { device, name } => self.show(*device, name),
             _ => unreachable!(),
+        }
+    }
+
+    // Runs an operation at once.
+    fn run(&mut self, job: &Job) -> Result<Told, StepFault>
+        requires goes_on { self.old.is_wanting ≡ false }
+        requires known { is_known_job job.now ≡ true }
+        ensures does { (before : AWorld) → StandsFor self.old before →
+            IfOk result (λ told. (past : List Step) × (after : AWorld) × DoesJob self.old.cluster before job.now past told after × StandsFor self.new after) }
+        ensures spent { IsErrOf result StepFault.StampsSpent → (is_drawing (Run job.now) ≡ true) × (greatest_stamp < next_stamp self.old.last) × (self.new ≡ self.old) }
+        ensures wants { IsErrOf result StepFault.NoMemory → self.new.is_wanting ≡ true }
+        ensures cluster { self.new.cluster ≡ self.old.cluster }
+    {
+        match job {
+            Job::Put { name, object } => self.put(name, object),
+            Job::Delete(name) => self.delete(name),
+            Job::Get(name) => self.get(name, false),
+            Job::Head(name) => self.get(name, true),
+            Job::Recon { .. } => unreachable!(),
         }
     }
 
@@ -203,7 +220,8 @@ impl World {
         ensures fault { IfErr result (λ fault. (fault ≡ StepFault.NoMemory) × (self.new.is_wanting ≡ true)) }
         ensures cluster { self.new.cluster ≡ self.old.cluster }
     {
-        match show_at(self.alloc, &self.nodes, number, name) {
+        let device = self.device_of(number).unwrap();
+        match show_at(self.alloc, &self.nodes, device, name) {
             Ok(told) => Ok(told),
             Err(NoMemory) => {
                 self.nodes.give_up();
@@ -213,14 +231,29 @@ impl World {
     }
 }
 
-// What a device of the cluster has of a name, told.
-fn show_at(alloc: Global, nodes: &Nodes, number: u64, name: &Name) -> Result<Told, NoMemory>
-    requires member { is_among (ids_of nodes.now.cluster) number ≡ true }
-    requires readable { All IsReadable (devices_of nodes.now.nodes number (folder_of (place_of_name nodes.now.cluster name.now))) }
-    ensures no_ends { IfOk result (λ told. told.ends ≡ []) }
-    ensures shown { IfOk result (λ told. IsShown number (devices_of nodes.now.nodes number (folder_of (place_of_name nodes.now.cluster name.now))) told.shown) }
+// The device that has a number, among these.
+fn device_among(devices: &[Device], number: u64) -> Option<u16>
+    ensures known { is_some result ≡ is_among (device_ids devices.now) number }
+    ensures id { IfSome result (λ id. id ≡ number) }
 {
-    let device = number as u16;
+    let place = place_among(devices, number)?;
+    Some(devices[place].id)
+}
+
+// Its place.
+fn place_among(devices: &[Device], number: u64) -> Option<usize>
+    ensures { result ≡ position (λ device. device.id == number) devices.now }
+{
+    devices.iter().position(|device| device.id as u64 == number)
+}
+
+// What a device of the cluster has of a name, told.
+fn show_at(alloc: Global, nodes: &Nodes, device: u16, name: &Name) -> Result<Told, NoMemory>
+    requires member { IsMember nodes.now.cluster device }
+    requires readable { All IsReadable (devices_of nodes.now.nodes device (folder_of (place_of_name nodes.now.cluster name.now))) }
+    ensures no_ends { IfOk result (λ told. told.ends ≡ []) }
+    ensures shown { IfOk result (λ told. IsShown device (devices_of nodes.now.nodes device (folder_of (place_of_name nodes.now.cluster name.now))) told.shown) }
+{
     let place = nodes.cluster().place(alloc, name)?;
     let disk = nodes.disk(device).unwrap();
     Ok(Told {

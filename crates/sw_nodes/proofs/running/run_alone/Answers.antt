@@ -1,7 +1,7 @@
-use Rattle.std.proofs.Common.{◌≡◌, ◌++◌, [], List, Option, None, Some, ap, refl, subst, sym, ◌∙◌}
+use Rattle.std.proofs.Common.{◌≡◌, [], List, None, Some, refl, subst, sym, ◌∙◌}
 use Rattle.std.proofs.lemmas.List.{append-nil}
 use Rattle.sw_ring.specs.Cluster.{ClusterModel}
-use Rattle.sw_message.specs.Learnt.{Learnt, Own}
+use Rattle.sw_message.specs.Learnt.{Own}
 use Rattle.sw_message.specs.Running.{MayRun}
 use Rattle.sw_message.specs.Transcript.{Over, Step}
 use Rattle.sw_nodes.proofs.Alone.{are_handled}
@@ -16,8 +16,7 @@ returns-clause-runs g c = λ begun stands same.
     let runs = c.in_ok-run.ensures.runs in
     let may = may_run (g.P.Operation.cluster begun) c.args.nodes.now.cluster (g.P.Operation.own begun) same in
     let went = runs.2 begun [] stands may in
-    let handled = are_handled c.args.nodes.now runs.0 c.run.new.link (sym c.is_wanting.ensures ∙ c.if-is_wanting.false) runs.1 in
-    (
+    let handled = are_handled c.args.nodes.now runs.0 c.run.new.link (sym c.is_wanting.ensures ∙ c.if-is_wanting.false) runs.1 in (
       runs.0,
       subst (λ (past : List Step). g.P.Operation.stands c.run.new.op begun past) (append-nil runs.0) went.0,
       subst (λ (past : List Step). g.P.Operation.machine begun past Over) (append-nil runs.0) went.2,

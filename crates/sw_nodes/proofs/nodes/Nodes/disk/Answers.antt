@@ -1,4 +1,4 @@
-use Rattle.std.proofs.Common.{◌≡◌, Some, ap, subst, sym, ◌∙◌}
+use Rattle.std.proofs.Common.{◌≡◌, Some, ap, subst, ◌∙◌}
 use Rattle.std.specs.List.{slice_get}
 use Rattle.std.proofs.lemmas.Option.{get_or_from_slice_get}
 use Rattle.sw_nodes.specs.Nodes.{AreNodes, MemNode, NodesModel}
@@ -10,8 +10,7 @@ returns-clause-disk c =
     let all = c.args.self.now in
     let are = subst AreNodes c.self.view_is c.self.invariant in
     let there = c.in_ok-place.ensures.place in
-    let at : slice_get c.self.inside.nodes.items c.in_ok-place.place ≡ Some there.0 = ap (λ (model : NodesModel). slice_get model.nodes c.in_ok-place.place) c.self.view_is ∙ there.1 in
-    (
+    let at : slice_get c.self.inside.nodes.items c.in_ok-place.place ≡ Some there.0 = ap (λ (model : NodesModel). slice_get model.nodes c.in_ok-place.place) c.self.view_is ∙ there.1 in (
       there.0,
       named all are c.args.device c.in_ok-place.place there.0 there.1 there.2,
       c.disk.ensures ∙ ap (λ (node : MemNode). node.disk) (c.index-node.ensures ∙ get_or_from_slice_get c.self.inside.nodes.items c.in_ok-place.place there.0 c.index-node.result.now at),

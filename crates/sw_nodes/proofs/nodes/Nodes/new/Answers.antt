@@ -5,7 +5,7 @@ use Rattle.std.proofs.lemmas.Option.{slice_get-get_or}
 use Rattle.sw_ring.specs.declared.device.Device.{Device}
 use Rattle.sw_scene.specs.Devices.{capacity_of}
 use Rattle.sw_nodes.specs.Nodes.{MemNode}
-use Rattle.sw_nodes.proofs.Making.{AreMade, all_empty, are_made, capacity_is, is_member, made_more}
+use Rattle.sw_nodes.proofs.Making.{AreMade, all_empty, capacity_is, is_member, made_more}
 use Rattle.sw_nodes.proofs.nodes.Nodes.new.Goals as goal
 
 abbrev other : Device

@@ -1,7 +1,6 @@
-use Rattle.std.proofs.Common.{◌≡◌, ◌==◌, Option, ap, subst, sym, ◌∙◌}
-use Rattle.std.specs.Prelude.{IfSome, IsSome}
-use Rattle.std.specs.List.{position, slice_get}
-use Rattle.sw_ring.specs.Cluster.{ClusterModel}
+use Rattle.std.proofs.Common.{◌≡◌, ◌==◌, ap, subst, sym, ◌∙◌}
+use Rattle.std.specs.Prelude.{IsSome}
+use Rattle.std.specs.List.{position}
 use Rattle.sw_ring.specs.declared.device.Device.{Device}
 use Rattle.sw_nodes.specs.Nodes.{AreNodes, NodesModel}
 use Rattle.sw_nodes.proofs.Handling.{placed, some_there}

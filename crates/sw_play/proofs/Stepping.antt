@@ -1,0 +1,155 @@
+-- A world of the program after an event, and the world of a script that it stands for.
+use Rattle.std.proofs.Common.{◌≡◌, ℕ, ◌≤◌, Bool, true, false, List, [], ◌∷◌, ◌++◌, Contains, None, Some, refl, sym, ap, subst, ◌∙◌, arith}
+use Rattle.std.specs.List.{All}
+use Rattle.sw_words.specs.Counts.{one_more}
+use Rattle.sw_types.specs.Name.{NameModel}
+use Rattle.sw_types.specs.Object.{ObjectModel}
+use Rattle.sw_types.specs.Stamp.{greatest_stamp}
+use Rattle.sw_disk.specs.Folder.{File}
+use Rattle.sw_hashpath.specs.Place.{PlaceModel, folder_of}
+use Rattle.sw_hashpath.proofs.Digests.{IsHash-md5}
+use Rattle.sw_archive.specs.Put.{IsPut, put_archive, put_fields}
+use Rattle.sw_archive.specs.Archive.{IsArchive}
+use Rattle.sw_archive.proofs.Archives.{put_is_archive}
+use Rattle.sw_ring.specs.Cluster.{ClusterModel, KeepsRules, place_of_name}
+use Rattle.sw_message.specs.Transcript.{Step}
+use Rattle.sw_message.specs.Warrant.{IsOfPut}
+use Rattle.sw_nodes.specs.Nodes.{devices_of}
+use Rattle.sw_scene.specs.Filed.{IsFiled}
+use Rattle.sw_script.specs.declared.event.Event.{Event}
+use Rattle.sw_script.specs.declared.event.Event.TheVariants as event
+use Rattle.sw_script.specs.declared.event.Job.TheVariants as job
+use Rattle.sw_told.specs.declared.end.OpEnd.TheVariants.{Put, Delete}
+use Rattle.sw_told.specs.declared.told.Told.{Told}
+use Rattle.sw_play.specs.Show.{IsReadable, IsShown}
+use Rattle.sw_play.specs.Standing.{StandsFor, WorldModel}
+use Rattle.sw_play.specs.World.{DoesDelete, DoesEvent, DoesGet, DoesPut, DoesShow, IsSound, RanDelete, RanGet, RanPut, World, empty_world, gets_as, next_stamp}
+use Rattle.sw_play.proofs.Ran.{ran_from}
+use Rattle.sw_play.proofs.Sounding.{sound_after}
+
+none_in : {A : Type 0} (x : A) → Contains [] x → ⊥
+none_in x (k, within, is) = omega (arith, within)
+
+-- ---- at first
+
+pub new_stands : (model : WorldModel) → model.is_wanting ≡ false → KeepsRules model.cluster → ((device : ℕ) (name : List ℕ) → devices_of model.nodes device name ≡ []) → model.last ≡ None → model.operations ≡ 0 → StandsFor model empty_world
+new_stands model goes rules empty last operations = record {
+  goes_on = goes;
+  sound = record {
+    rules = rules;
+    book = record { puts = λ booked there. absurd (none_in booked there); one = λ a b there here same. absurd (none_in a there) };
+    drawn = λ booked there. absurd (none_in booked there);
+    filed = λ device place is_place k d within. absurd (omega (arith, within));
+  };
+  devices = λ device name. sym (empty device name);
+  last = sym last;
+  operations = sym operations;
+}
+
+-- ---- events
+
+module _ (old : WorldModel) (before : World) (stands : StandsFor old before) (new : WorldModel) (same : new.cluster ≡ old.cluster) (goes : new.is_wanting ≡ false) (past : List Step) (told : Told) where
+  -- what an event leads to, from a world
+  abbrev pub Leads : (List Step → Told → World → Type 0) → Type 0
+  Leads Does = (steps : List Step) × (after : World) × Does steps told after × StandsFor new after
+
+  stands_after : (after : World) (done : Event) → DoesEvent old.cluster before done past told after → ((device : ℕ) (name : List ℕ) → after.devices device name ≡ devices_of new.nodes device name) → after.last ≡ new.last → after.operations ≡ new.operations
+      → StandsFor new after
+  stands_after after done does devices last operations = record {
+    goes_on = goes;
+    sound = subst (λ (c : ClusterModel). IsSound c after) (sym same) (sound_after old.cluster before stands.sound past told after done does);
+    devices = devices;
+    last = last;
+    operations = operations;
+  }
+
+  module _ (name : NameModel) (operation : ℕ) (counted : operation ≡ one_more old.operations) (left_operations : new.operations ≡ operation) where
+    next_count : one_more before.operations ≡ operation
+    next_count = ap one_more stands.operations ∙ sym counted
+
+    same_files : (device : ℕ) (path : List ℕ) → devices_of old.nodes device path ≡ before.devices device path
+    same_files device path = sym (stands.devices device path)
+
+    module _ (stamp : ℕ) (drawn : stamp ≡ next_stamp old.last) (spare : stamp ≤ greatest_stamp) (left_last : new.last ≡ Some stamp) where
+      next_is : next_stamp before.last ≡ stamp
+      next_is = ap next_stamp stands.last ∙ sym drawn
+
+      pub put_stands : (object : ObjectModel) → IsPut old.cluster.policy stamp name object → RanPut (record { cluster = old.cluster; stamp = stamp; name = name; object = object }) operation (devices_of old.nodes) past told (devices_of new.nodes)
+          → Leads (DoesPut old.cluster before name object)
+      put_stands object is_put ran =
+          let after : World = record {
+            devices = devices_of new.nodes;
+            last = Some (next_stamp before.last);
+            operations = one_more before.operations;
+            book = before.book ++ record { stamp = next_stamp before.last; name = name; object = object } ∷ [];
+            marks = before.marks;
+          } in
+          let does : DoesPut old.cluster before name object past told after = record {
+            spare = rw next_is spare;
+            is_put = rw next_is is_put;
+            ran = rw (next_is, next_count) (ran_from old.cluster _ _ Put operation (devices_of old.nodes) (devices_of new.nodes) before.devices same_files past told ran);
+            after_is = refl;
+          } in
+          (past, after, does, stands_after after (event.Run (job.Put name object)) does (λ device path. refl) (ap Some next_is ∙ sym left_last) (next_count ∙ sym left_operations))
+
+      pub delete_stands : RanDelete (record { cluster = old.cluster; stamp = stamp; name = name }) operation (devices_of old.nodes) past told (devices_of new.nodes) → Leads (DoesDelete old.cluster before name)
+      delete_stands ran =
+          let after : World = record {
+            devices = devices_of new.nodes;
+            last = Some (next_stamp before.last);
+            operations = one_more before.operations;
+            book = before.book;
+            marks = before.marks ++ record { stamp = next_stamp before.last; name = name } ∷ [];
+          } in
+          let does : DoesDelete old.cluster before name past told after = record {
+            spare = rw next_is spare;
+            ran = rw (next_is, next_count) (ran_from old.cluster _ _ Delete operation (devices_of old.nodes) (devices_of new.nodes) before.devices same_files past told ran);
+            after_is = refl;
+          } in
+          (past, after, does, stands_after after (event.Run (job.Delete name)) does (λ device path. refl) (ap Some next_is ∙ sym left_last) (next_count ∙ sym left_operations))
+
+    pub get_stands : (is_head : Bool) → new.last ≡ old.last → RanGet (record { cluster = old.cluster; name = name }) (gets_as is_head) operation (devices_of old.nodes) past told (devices_of new.nodes)
+        → Leads (DoesGet old.cluster before name is_head)
+    get_stands is_head left_last ran =
+        let after : World = record before { devices = devices_of new.nodes; operations = one_more before.operations } in
+        let does : DoesGet old.cluster before name is_head past told after = record {
+          ran = rw next_count (ran_from old.cluster _ _ (gets_as is_head) operation (devices_of old.nodes) (devices_of new.nodes) before.devices same_files past told ran);
+          after_is = refl;
+        } in
+        (past, after, does, stands_after after (as_event is_head) (as_does is_head after does) (λ device path. refl) (stands.last ∙ sym left_last) (next_count ∙ sym left_operations))
+      where
+        as_event : Bool → Event
+        as_event true = event.Run (job.Head name)
+        as_event false = event.Run (job.Get name)
+
+        as_does : (head : Bool) (after : World) → DoesGet old.cluster before name head past told after → DoesEvent old.cluster before (as_event head) past told after
+        as_does true after does = does
+        as_does false after does = does
+
+-- ---- what is shown
+
+module _ (model : WorldModel) (world : World) (stands : StandsFor model world) (device : ℕ) (name : NameModel) where
+  abbrev there : List File
+  there = devices_of model.nodes device (folder_of (place_of_name model.cluster name))
+
+  pub readable : All IsReadable there
+  readable = λ k d within stamp index durable is_name named.
+      let filed = subst (λ (files : List File). All (IsFiled model.cluster world.book (place_of_name model.cluster name)) files) (stands.devices device (folder_of (place_of_name model.cluster name)))
+      (stands.sound.filed device (place_of_name model.cluster name) (record { hash = IsHash-md5 _; part = refl })) in
+      let of = filed k d within stamp index durable is_name named in
+      let put = stands.sound.book.puts of.booked of.known in (
+        put_fields model.cluster.policy of.booked.stamp of.booked.name of.booked.object index,
+        subst (λ (bytes : List ℕ). IsArchive bytes (put_fields model.cluster.policy of.booked.stamp of.booked.name of.booked.object index)) (sym (archive_is of))
+            (put_is_archive model.cluster.policy of.booked.stamp of.booked.name of.booked.object index put of.index_below),
+      )
+    where
+      archive_is : {place : PlaceModel} {stamp index : ℕ} {bytes : List ℕ} (of : IsOfPut model.cluster world.book place stamp index bytes) → bytes ≡ put_archive model.cluster.policy of.booked.stamp of.booked.name of.booked.object index
+      archive_is of = of.archive ∙ ap (λ (s : ℕ). put_archive model.cluster.policy s of.booked.name of.booked.object _) (sym of.stamp_is)
+
+  pub show_stands : (told : Told) → told.ends ≡ [] → IsShown device there told.shown → (past : List Step) × (after : World) × DoesShow model.cluster world device name past told after × StandsFor model after
+  show_stands told none shown = (
+    [],
+    world,
+    record { no_steps = refl; no_ends = none; shown = subst (λ (files : List File). IsShown device files told.shown) (sym (stands.devices device (folder_of (place_of_name model.cluster name)))) shown; after_is = refl },
+    stands,
+  )
