@@ -1,10 +1,9 @@
 -- The lines that are printed of what is told.
-use Rattle.std.specs.Prelude.{ℕ, ◌==◌, Bool, true, false, if◌then◌else◌, nat_lt, codes, List, [], ◌∷◌, ◌++◌, length, map}
+use Rattle.std.specs.Prelude.{ℕ, ◌==◌, Bool, if◌then◌else◌, nat_lt, codes, List, [], ◌∷◌, ◌++◌, length, map}
 use Rattle.std.specs.Fmt.{decimal}
 use Rattle.std.specs.List.{concat, join_by}
 use Rattle.sw_types.specs.Hex.{hex_text}
 use Rattle.sw_types.specs.Stamp.{stamp_text}
-use Rattle.sw_hashdir.specs.declared.entry.Entry.{Entry}
 use Rattle.sw_message.specs.declared.miss.Miss.{Miss}
 use Rattle.sw_message.specs.declared.target.Target.{Target}
 use Rattle.sw_delete.specs.declared.end.DeleteEnd.{DeleteEnd}

@@ -29,7 +29,8 @@ const TEXT: &str = "before\n\
     e 15 deleted 1000000000.00001 3 yes\n\
     e 16 deleted 1000000000.00001 2 no\n\
     e 17 superseded 1000000000.00001\n\
-    e 18446744073709551615 too-few-marks 0\n\
+    e 18 too-few-marks 0\n\
+    e 18446744073709551615 absent\n\
     s 3 0 1000000000.00000 durable 6162\n\
     s 3 11 1000000000.00000 plain -\n\
     s 2 - 1000000000.00001 tombstone\n\
@@ -55,23 +56,36 @@ fn misses(alloc: Global) -> Result<Items<(u16, Miss)>, Fail> {
     Ok(Items::from(misses))
 }
 
-fn puts(alloc: Global) -> Result<Vec<OpEnd>, Fail> {
-    let ends = vec![in alloc;
+// Adds an end with its number, from 1.
+fn add(lines: &mut Vec<EndLine>, end: OpEnd) -> Result<(), Fail> {
+    let operation = (lines.len() as u64).saturating_add(1);
+    lines.push(EndLine { operation, end })?;
+    Ok(())
+}
+
+fn add_puts(lines: &mut Vec<EndLine>, alloc: Global) -> Result<(), Fail> {
+    add(
+        lines,
         OpEnd::Put(PutEnd::Created {
             stamp: created()?,
-            commits: 3
+            commits: 3,
         }),
-        OpEnd::Put(PutEnd::Superseded { floor: floor()? }),
+    )?;
+    add(lines, OpEnd::Put(PutEnd::Superseded { floor: floor()? }))?;
+    add(
+        lines,
         OpEnd::Put(PutEnd::TooFewSynced {
             have: 2,
-            misses: misses(alloc)?
+            misses: misses(alloc)?,
         }),
+    )?;
+    add(
+        lines,
         OpEnd::Put(PutEnd::TooFewCommits {
             have: 1,
-            misses: misses(alloc)?
+            misses: misses(alloc)?,
         }),
-    ]?;
-    Ok(ends)
+    )
 }
 
 // An object of this body, found in archives of these indices.
@@ -94,70 +108,79 @@ fn found(alloc: Global, body: &[u8], indices: &[u32]) -> Result<GetEnd, Fail> {
     })
 }
 
-fn gets(alloc: Global) -> Result<Vec<OpEnd>, Fail> {
-    let ends = vec![in alloc;
-        OpEnd::Get(found(alloc, b"abc", &[0, 1])?),
-        OpEnd::Get(found(alloc, b"", &[12])?),
-        OpEnd::Get(GetEnd::Absent),
-        OpEnd::Get(GetEnd::Buried { stamp: deleted()? }),
+fn add_gets(lines: &mut Vec<EndLine>, alloc: Global) -> Result<(), Fail> {
+    add(lines, OpEnd::Get(found(alloc, b"abc", &[0, 1])?))?;
+    add(lines, OpEnd::Get(found(alloc, b"", &[12])?))?;
+    add(lines, OpEnd::Get(GetEnd::Absent))?;
+    add(lines, OpEnd::Get(GetEnd::Buried { stamp: deleted()? }))?;
+    add(
+        lines,
         OpEnd::Get(GetEnd::Unanswered {
-            misses: misses(alloc)?
+            misses: misses(alloc)?,
         }),
+    )?;
+    add(
+        lines,
         OpEnd::Get(GetEnd::TooFew {
             stamp: created()?,
-            have: 1
+            have: 1,
         }),
+    )?;
+    add(
+        lines,
         OpEnd::Get(GetEnd::Overtaken {
-            events: Items::from(Vec::new(alloc))
+            events: Items::from(Vec::new(alloc)),
         }),
-    ]?;
-    Ok(ends)
+    )
 }
 
-fn heads(alloc: Global) -> Result<Vec<OpEnd>, Fail> {
-    let ends = vec![in alloc;
-        OpEnd::Head(found(alloc, b"", &[0, 1])?),
-        OpEnd::Head(found(alloc, b"abc", &[0, 1])?),
-        OpEnd::Head(GetEnd::Absent),
-    ]?;
-    Ok(ends)
+fn add_heads(lines: &mut Vec<EndLine>, alloc: Global) -> Result<(), Fail> {
+    add(lines, OpEnd::Head(found(alloc, b"", &[0, 1])?))?;
+    add(lines, OpEnd::Head(found(alloc, b"abc", &[0, 1])?))?;
+    add(lines, OpEnd::Head(GetEnd::Absent))
 }
 
-fn deletes(alloc: Global) -> Result<Vec<OpEnd>, Fail> {
+fn add_deletes(lines: &mut Vec<EndLine>, alloc: Global) -> Result<(), Fail> {
     let stamp = deleted()?;
-    let ends = vec![in alloc;
+    add(
+        lines,
         OpEnd::Delete(DeleteEnd::Deleted {
             stamp,
             marks: 3,
-            existed: true
+            existed: true,
         }),
+    )?;
+    add(
+        lines,
         OpEnd::Delete(DeleteEnd::Deleted {
             stamp,
             marks: 2,
-            existed: false
+            existed: false,
         }),
+    )?;
+    add(
+        lines,
         OpEnd::Delete(DeleteEnd::Superseded { floor: floor()? }),
-    ]?;
-    Ok(ends)
+    )?;
+    add(
+        lines,
+        OpEnd::Delete(DeleteEnd::TooFewMarks {
+            have: 0,
+            misses: misses(alloc)?,
+        }),
+    )
 }
 
-// Each end with its number, from 1, and the last one with the greatest.
+// Each end, and one with the greatest number.
 fn ends(alloc: Global) -> Result<Vec<EndLine>, Fail> {
     let mut lines = Vec::new(alloc);
-    let mut numbers = 1..u64::MAX;
-    for ends in [puts(alloc)?, gets(alloc)?, heads(alloc)?, deletes(alloc)?] {
-        for end in ends {
-            let operation = numbers.next().ok_or("number")?;
-            lines.push(EndLine { operation, end })?;
-        }
-    }
-    let end = OpEnd::Delete(DeleteEnd::TooFewMarks {
-        have: 0,
-        misses: misses(alloc)?,
-    });
+    add_puts(&mut lines, alloc)?;
+    add_gets(&mut lines, alloc)?;
+    add_heads(&mut lines, alloc)?;
+    add_deletes(&mut lines, alloc)?;
     lines.push(EndLine {
         operation: u64::MAX,
-        end,
+        end: OpEnd::Get(GetEnd::Absent),
     })?;
     Ok(lines)
 }

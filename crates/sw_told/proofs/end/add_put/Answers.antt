@@ -1,4 +1,4 @@
-use Rattle.std.proofs.Common.{◌≡◌, string_bytes, rules}
+use Rattle.std.proofs.Common.{◌≡◌, string_bytes}
 use Rattle.sw_told.specs.Text.{put_text}
 use Rattle.sw_told.proofs.end.add_put.Goals as goal
 use Rattle.sw_told.proofs.end.add_put.Goals.{in-Created+in_ok-text-in-Created, in-Superseded+in_ok-text-in-Superseded, in-TooFewSynced+in_ok-text-in-TooFewSynced, in-TooFewCommits+in_ok-text-in-TooFewCommits}

@@ -1,4 +1,4 @@
-use Rattle.std.proofs.Common.{codes, map, sym, arith, string_bytes}
+use Rattle.std.proofs.Common.{codes, sym, arith, string_bytes}
 use Rattle.std.specs.Fmt.{decimal}
 use Rattle.std.proofs.lemmas.List.{map-append, take_all}
 use Rattle.sw_told.proofs.Printed.{join_by-map, map_more}
