@@ -1,4 +1,3 @@
 mod EmptyLines
 mod Outcomes
 mod Outsides
-mod Searches

@@ -1,62 +1,119 @@
--- Answers that keep to an outcome.
-use Rattle.std.proofs.Common.{◌≡◌, ℕ, suc, ◌≤◌, ◌==◌, ◌&&◌, Bool, true, false, if◌then◌else◌, List, [], ◌∷◌, ◌++◌, length, take, inl, inr, ◌⊎◌, refl, sym, ◌∙◌, ap, subst, arith}
-use Rattle.std.specs.Prelude.{◌≢◌}
-use Rattle.std.specs.List.{concat}
+-- Answers that keep to what the words and the input give.
+use Rattle.std.proofs.Common.{◌≡◌, ℕ, suc, ◌≤◌, ◌==◌, ◌&&◌, Bool, true, false, nat_lt, if◌then◌else◌, List, [], ◌∷◌, ◌++◌, length, inl, inr, refl, sym, ◌∙◌, ap, subst, arith, Ok, Err}
 use Rattle.std.proofs.Math.Seq.{take-length}
+use Rattle.std.proofs.lemmas.Bool.Decides.{nat_tests}
 use Rattle.sw_words.specs.Memory.{UnlessMemory}
-use Rattle.sw_ring.specs.Cluster.{ClusterModel}
-use Rattle.swift_main.specs.Answer.{Gives, Left}
-use Rattle.swift_main.specs.Input.{after_empty}
-use Rattle.swift_main.specs.Nodes.{WorldModel}
-use Rattle.swift_main.specs.Outcome.{last_line, script_outcome, script_status, status_code}
-use Rattle.swift_main.specs.Play.{Played, Ran, fault_of}
-use Rattle.swift_main.specs.Run.{run_text}
-use Rattle.swift_main.specs.Script.{events_of, first_fault, lines_of}
+use Rattle.sw_ring.specs.Cluster.{ClusterModel, IsCluster, KeepsRules, ring_of}
+use Rattle.sw_ring.specs.Members.{RingMembers}
+use Rattle.sw_ring.specs.declared.fault.RingFault.{RingFault}
+use Rattle.sw_script.specs.Line.{lines_of}
+use Rattle.sw_script.specs.declared.event.Event.{Event}
+use Rattle.sw_play.specs.Play.{EndsBy, IsRun, Played, events_of}
+use Rattle.sw_play.specs.Script.{events_from}
+use Rattle.sw_play.specs.Standing.{WorldModel}
+use Rattle.sw_play.specs.Story.{events_in}
+use Rattle.sw_play.specs.World.{World, empty_world}
+use Rattle.sw_play.specs.declared.playing.PlayEnd.{PlayEnd}
+use Rattle.sw_play.specs.declared.playing.PlayEnd.TheVariants as ended
+use Rattle.swift_main.specs.Answer.{IsAnswer, IsAnswerBy, IsLastLine}
+use Rattle.swift_main.specs.Input.{after_empty, before_empty, ring_text}
+use Rattle.swift_main.specs.Outcome.{EndsAs, Gives, InputGives, RingGives, ScriptGives, WordsGive, greatest_input, is_play, last_line, text_of}
 use Rattle.swift_main.specs.declared.decide.Answer.{Answer}
-use Rattle.swift_main.specs.declared.event.Event.{Event}
-use Rattle.swift_main.specs.declared.play.PlayEnd.{PlayEnd}
-use Rattle.swift_main.specs.declared.play.PlayEnd.TheVariants as play_end
 use Rattle.swift_main.specs.declared.status.Status.{Status}
-use Rattle.swift_main.specs.declared.status.Status.TheVariants.{Done, Usage, Ring, Line, NoMemory, ReadFault, WriteFault, TooLong}
-use Rattle.swift_main.proofs.Runs.{run_lines-take}
+use Rattle.swift_main.specs.declared.status.Status.TheVariants.{Done, Line, NoMemory, Ring, Spent}
+
+-- what leads on to more leads an answer on likewise
+answers_by : (one other : Status → List ℕ → Type 0) (answer : Answer) → ((status : Status) (told : List ℕ) → one status told → other status told) → IsAnswerBy one answer → IsAnswerBy other answer
+answers_by one other answer given by = record {
+  whole = λ goes. let was = by.whole goes in (was.0, given answer.status was.0 was.1, was.2);
+  part = λ wants. elim (by.part wants) [ inl none ↦ inl none | inr some ↦ inr (given NoMemory answer.text some) ];
+}
 
 -- ---- a script over a fresh world
 
+-- all the events were done, or the first so many
+stopped_ends : (cluster : ClusterModel) (lines : List (List ℕ)) (events : List Event) (after : World) (end : PlayEnd) → EndsBy cluster lines events after end → EndsBy cluster lines events after ended.NoMemory
+stopped_ends cluster lines events after ended.Done ends =
+    let all = events_from cluster 1 lines in (length all, ends.0 ∙ ap events_of (sym (take-length all)))
+stopped_ends cluster lines events after (ended.Line line fault) ends =
+    let all = events_from cluster 1 lines in (length all, ends.0 ∙ ap events_of (sym (take-length all)))
+stopped_ends cluster lines events after (ended.Spent line) ends = (ends.count, ends.done)
+stopped_ends cluster lines events after ended.NoMemory ends = ends
+
+-- a run is one that want of memory ended there
+stopped_run : (cluster : ClusterModel) (before : World) (lines : List (List ℕ)) (end : PlayEnd) (text : List ℕ) → IsRun cluster before lines end text → IsRun cluster before lines ended.NoMemory text
+stopped_run cluster before lines end text run = record {
+  story = run.story;
+  after = run.after;
+  done = run.done;
+  ends = stopped_ends cluster lines (events_in run.story) run.after end run.ends;
+  text_is = run.text_is;
+  found = run.found;
+}
+
 -- the status of the end of a script
 abbrev pub status_of : PlayEnd → Status
-status_of play_end.Done = Done
-status_of (play_end.Line line fault) = Line line fault
-status_of play_end.NoMemory = NoMemory
+status_of ended.Done = Done
+status_of (ended.Line line fault) = Line line fault
+status_of (ended.Spent line) = Spent line
+status_of ended.NoMemory = NoMemory
 
-status_of_fault : (end : PlayEnd) → end ≢ play_end.NoMemory → status_of end ≡ script_status (fault_of end)
-status_of_fault play_end.Done goes = refl
-status_of_fault (play_end.Line line fault) goes = refl
-status_of_fault play_end.NoMemory goes = absurd (goes refl)
+ends_as : (end : PlayEnd) → EndsAs (status_of end) end
+ends_as ended.Done = refl
+ends_as (ended.Line line fault) = refl
+ends_as (ended.Spent line) = refl
+ends_as ended.NoMemory = refl
 
 -- the answer of a script's end
-pub script_gives : (cluster : ClusterModel) (script : List ℕ) (end : PlayEnd) (world : WorldModel) (old text : List ℕ) (answer : Answer)
-    → old ≡ [] → UnlessMemory play_end.NoMemory end (fault_of end ≡ first_fault 1 (lines_of script)) → Played cluster [] (events_of (lines_of script)) end world old text
+pub script_answers : (cluster : ClusterModel) (script : List ℕ) (end : PlayEnd) (left : WorldModel) (old text : List ℕ) (answer : Answer) → old ≡ [] → Played cluster empty_world (lines_of script) end left old text
     → UnlessMemory NoMemory answer.status ((answer.status ≡ status_of end) × (answer.text ≡ text ++ last_line (status_of end))) → (answer.status ≡ NoMemory → answer.text ≡ text)
-    → Gives (script_outcome cluster.policy script) answer
-script_gives cluster script end world old text answer empty ends played done none =
-    let events = events_of (lines_of script) in
-    let lines : text ≡ run_text cluster.policy [] (take played.written events) = played.ran.text ∙ ap (λ t. t ++ run_text cluster.policy [] (take played.written events)) empty in
+    → IsAnswerBy (ScriptGives cluster script) answer
+script_answers cluster script end left old text answer empty played done none =
+    let is : text ≡ played.told = played.text ∙ ap (λ before. before ++ played.told) empty in
     record {
       whole = λ goes.
-          let parts = done goes in
-          let went : end ≢ play_end.NoMemory = λ same. goes (parts.0 ∙ ap status_of same) in
-          let status : status_of end ≡ script_status (first_fault 1 (lines_of script)) = status_of_fault end went ∙ ap script_status (ends went) in
-          let all : text ≡ run_text cluster.policy [] events =
-          lines ∙ ap (λ n. run_text cluster.policy [] (take n events)) (played.all went).1 ∙ ap (λ t. run_text cluster.policy [] t) (take-length events) in
-          (parts.0 ∙ status, parts.1 ∙ ap (λ t. t ++ last_line (status_of end)) all ∙ ap (λ s. run_text cluster.policy [] events ++ last_line s) status);
-      part = λ wants. record { ended = played.written; lines = none wants ∙ lines ∙ ap concat (sym (run_lines-take cluster.policy [] events played.written)) };
+          let parts = done goes in (
+            played.told,
+            subst (λ status. ScriptGives cluster script status played.told) (sym parts.0) (end, ends_as end, played.run),
+            parts.1 ∙ ap (λ t. t ++ last_line (status_of end)) is ∙ ap (λ status. played.told ++ last_line status) (sym parts.0),
+          );
+      part = λ wants.
+          inr (
+            ended.NoMemory,
+            refl,
+            subst (λ t. IsRun cluster empty_world (lines_of script) ended.NoMemory t) (sym (none wants ∙ is)) (stopped_run cluster empty_world (lines_of script) end played.told played.run),
+          );
     }
 
--- what it leaves where memory was refused
-pub script_left : (cluster : ClusterModel) (events : List Event) (end : PlayEnd) (world : WorldModel) (old text : List ℕ) (answer : Answer) → old ≡ [] → Played cluster [] events end world old text
-    → (answer.status ≡ NoMemory → answer.text ≡ text) → answer.status ≡ NoMemory → Left cluster events world answer
-script_left cluster events end world old text answer empty played none wants =
-    record { done = played.done; written = played.written; ran = rw (none wants) (subst (λ before. Ran cluster [] events played.done played.written world before text) empty played.ran) }
+-- and behind the ring of its cluster
+pub ring_answers : (ring script : List ℕ) (members : RingMembers) (cluster made : ClusterModel) (answer : Answer) → ring_of (ring_text ring) ≡ Ok members → IsCluster members cluster → KeepsRules cluster
+    → made ≡ cluster → IsAnswerBy (ScriptGives made script) answer → IsAnswerBy (RingGives (ring_of (ring_text ring)) script) answer
+ring_answers ring script members cluster made answer is cluster_is rules same by =
+    let given : (status : Status) (told : List ℕ) → ScriptGives made script status told → RingGives (ring_of (ring_text ring)) script status told =
+    λ status told gives. subst (λ result. RingGives result script status told) (sym is) (cluster, cluster_is, rules, subst (λ c. ScriptGives c script status told) same gives) in
+    answers_by (ScriptGives made script) (RingGives (ring_of (ring_text ring)) script) answer given by
+
+-- and where the ring breaks a rule
+pub rule_answers : (ring script : List ℕ) (fault : RingFault) (answer : Answer) → ring_of (ring_text ring) ≡ Err fault → IsLastLine (Ring fault) answer → IsAnswerBy (RingGives (ring_of (ring_text ring)) script) answer
+rule_answers ring script fault answer is last = record {
+  whole = λ goes.
+      let parts = last.whole goes in ([], subst (λ result. RingGives result script answer.status []) (sym is) (parts.0, refl), parts.1 ∙ ap (λ status. text_of status []) (sym parts.0));
+  part = λ wants. inl (last.part wants);
+}
+
+-- ---- the parts of the input
+
+-- the answer by the parts is that to the words and the input
+pub input_answers : (words : List (List ℕ)) (input ring script : List ℕ) (answer : Answer) → is_play words ≡ true → length input ≤ greatest_input → ring ≡ before_empty true input
+    → script ≡ after_empty true input → IsAnswerBy (RingGives (ring_of (ring_text ring)) script) answer → IsAnswer words input answer
+input_answers words input ring script answer play short before after by =
+    let test : nat_lt greatest_input (length input) ≡ false = grind (arith, nat_tests) in
+    let given : (status : Status) (told : List ℕ) → RingGives (ring_of (ring_text ring)) script status told → Gives words input status told =
+    λ status told gives.
+    let by_ring : RingGives (ring_of (ring_text (before_empty true input))) script status told = subst (λ r. RingGives (ring_of (ring_text r)) script status told) before gives in
+    let by_parts : InputGives false input status told = subst (λ s. RingGives (ring_of (ring_text (before_empty true input))) s status told) after by_ring in
+    subst (λ b. WordsGive b input status told) (sym play) (subst (λ b. InputGives b input status told) (sym test) by_parts) in
+    let is = answers_by (RingGives (ring_of (ring_text ring)) script) (Gives words input) answer given by in record { whole = is.whole; part = is.part }
 
 -- the script is no longer than the input
 pub script_within : (starts : Bool) (input : List ℕ) → length (after_empty starts input) ≤ length input
@@ -64,27 +121,3 @@ script_within starts [] = omega arith
 script_within starts (byte ∷ bytes) =
     let later = script_within (byte == 10) bytes in
     elim (starts && (byte == 10)) as (λ empty. length (if empty then bytes else after_empty (byte == 10) bytes) ≤ suc (length bytes)) [ true ↦ omega arith | false ↦ omega arith ]
-
--- ---- the exit status
-
--- memory was refused, or not
-pub is_no_memory : (status : Status) → (status ≡ NoMemory) ⊎ (status ≢ NoMemory)
-is_no_memory Done = inr (λ same. cc)
-is_no_memory Usage = inr (λ same. cc)
-is_no_memory (Ring fault) = inr (λ same. cc)
-is_no_memory (Line line fault) = inr (λ same. cc)
-is_no_memory NoMemory = inl refl
-is_no_memory ReadFault = inr (λ same. cc)
-is_no_memory WriteFault = inr (λ same. cc)
-is_no_memory TooLong = inr (λ same. cc)
-
--- no other status is printed as want of memory
-pub no_memory_code : (status : Status) → status_code status ≡ 4 → status ≡ NoMemory
-no_memory_code Done four = absurd (omega arith)
-no_memory_code Usage four = absurd (omega arith)
-no_memory_code (Ring fault) four = absurd (omega arith)
-no_memory_code (Line line fault) four = absurd (omega arith)
-no_memory_code NoMemory four = refl
-no_memory_code ReadFault four = absurd (omega arith)
-no_memory_code WriteFault four = absurd (omega arith)
-no_memory_code TooLong four = absurd (omega arith)

@@ -1,25 +1,24 @@
 //! What the program answers, by its words and its whole input.
 
-ghost use Rattle.std.specs.Prelude.{◌≡◌, ◌≤◌, [], ◌++◌, Err, IfErr, IfOk, map, length, string_bytes};
+ghost use Rattle.std.specs.Prelude.{◌≡◌, ◌≤◌, ◌++◌, Err, IfErr, IfOk, length, map, string_bytes};
 ghost use Rattle.sw_words.specs.Memory.{UnlessMemory};
-ghost use Rattle.sw_ring.specs.Cluster.{ClusterModel};
-ghost use Rattle.swift_main.specs.Answer.{Gives, Left};
-ghost use Rattle.swift_main.specs.Nodes.{StandsFor};
-ghost use Rattle.swift_main.specs.Outcome.{greatest_input, is_play, last_line, outcome_of, ring_outcome, script_outcome};
-ghost use Rattle.swift_main.specs.Input.{ring_text};
-ghost use Rattle.swift_main.specs.Script.{events_of, lines_of};
+ghost use Rattle.sw_play.specs.Play.{greatest_script};
+ghost use Rattle.sw_play.specs.Standing.{StandsFor};
+ghost use Rattle.sw_play.specs.World.{empty_world};
 ghost use Rattle.sw_ring.specs.Cluster.{ring_of};
+ghost use Rattle.swift_main.specs.Answer.{IsAnswer, IsAnswerBy, IsLastLine};
+ghost use Rattle.swift_main.specs.Input.{ring_text};
+ghost use Rattle.swift_main.specs.Outcome.{RingGives, ScriptGives, is_play, last_line};
 
 use crate::input::{at_empty_line, read_ring};
-use crate::play::{PlayEnd, play};
 use crate::status::Status;
-use crate::world::World;
 use std::alloc::Global;
+use sw_play::{GREATEST_SCRIPT, PlayEnd, World, play};
 use sw_ring::RingFault;
 use sw_types::{Bytes, NoMemory};
 
-/// The greatest number of bytes of the input.
-pub const GREATEST_INPUT: usize = 67_108_864;
+/// The greatest number of bytes of the input: its script may be as long.
+pub const GREATEST_INPUT: usize = GREATEST_SCRIPT;
 
 /// A status and all that is to be written.
 #[derive(Debug, Drop)]
@@ -35,9 +34,9 @@ pub fn is_play(words: &[String]) -> bool
     words.len() == 2 && words[1].as_str() == "play"
 }
 
-/// The answer to the words and the input. Where memory was refused, the text has some first lines of operations, each whole.
+/// The answer to the words and the input. Where memory was refused, the text is what is told of some first events, each whole.
 pub fn decide(alloc: Global, words: &[String], input: &[u8]) -> Answer
-    ensures { Gives (outcome_of (map (λ word. string_bytes word) words.now) input.now) result }
+    ensures { IsAnswer (map (λ word. string_bytes word) words.now) input.now result }
 {
     if !is_play(words) {
         return last_line_alone(alloc, Status::Usage);
@@ -55,8 +54,8 @@ pub fn decide(alloc: Global, words: &[String], input: &[u8]) -> Answer
 
 // The answer to a script over a fresh world of the ring before it.
 fn run_input(alloc: Global, ring: &[u8], script: &[u8]) -> Result<Answer, RingFault>
-    requires { length script.now ≤ greatest_input }
-    ensures gives { IfOk result (Gives (ring_outcome (ring_of (ring_text ring.now)) script.now)) }
+    requires { length script.now ≤ greatest_script }
+    ensures answer { IfOk result (IsAnswerBy (RingGives (ring_of (ring_text ring.now)) script.now)) }
     ensures fault { IfErr result (λ fault. UnlessMemory RingFault.NoMemory fault (ring_of (ring_text ring.now) ≡ Err fault)) }
 {
     let cluster = read_ring(alloc, ring)?;
@@ -64,25 +63,23 @@ fn run_input(alloc: Global, ring: &[u8], script: &[u8]) -> Result<Answer, RingFa
     Ok(run_script(alloc, script, &mut world))
 }
 
-// The answer of a status that no operation comes before.
+// The answer of a status that nothing is told with.
 fn last_line_alone(alloc: Global, status: Status) -> Answer
-    ensures { Gives (record { status = status; ends = [] }) result }
+    ensures { IsLastLine status result }
 {
     finish(alloc, status, Bytes::new(alloc))
 }
 
-// The answer to a script over a fresh world. Where memory was refused, it has the lines that the script left.
+// The answer to a script over a fresh world.
 fn run_script(alloc: Global, script: &[u8], world: &mut World) -> Answer
-    requires few { world.old.operations ≡ 0 }
-    requires short { length script.now ≤ greatest_input }
-    ensures gives { (cluster : ClusterModel) → StandsFor cluster world.old [] → Gives (script_outcome cluster.policy script.now) result }
-    ensures left { (cluster : ClusterModel) → StandsFor cluster world.old [] → result.status ≡ Status.NoMemory →
-        Left cluster (events_of (lines_of script.now)) world.new result }
+    requires { length script.now ≤ greatest_script }
+    ensures { StandsFor world.old empty_world → IsAnswerBy (ScriptGives world.old.cluster script.now) result }
 {
     let mut text = Bytes::new(alloc);
     match play(alloc, script, world, &mut text) {
         PlayEnd::Done => finish(alloc, Status::Done, text),
         PlayEnd::Line { line, fault } => finish(alloc, Status::Line { line, fault }, text),
+        PlayEnd::Spent { line } => finish(alloc, Status::Spent { line }, text),
         PlayEnd::NoMemory => finish(alloc, Status::NoMemory, text),
     }
 }

@@ -3,9 +3,9 @@
 ghost use Rattle.std.specs.Prelude.{◌≡◌, ◌++◌, OnOk, OnErr};
 ghost use Rattle.swift_main.specs.Outcome.{last_line, status_code};
 
-use crate::event::LineFault;
 use std::alloc::Global;
 use sw_ring::RingFault;
+use sw_script::LineFault;
 use sw_types::{Bytes, NoMemory};
 
 /// How the program ends, with its exit status and its last line.
@@ -25,6 +25,8 @@ pub enum Status {
     ReadFault,
     /// 6: the output failed.
     WriteFault,
+    /// 9, and `line L: stamps spent`: this line of the script was to draw a stamp after the last one there is.
+    Spent { line: u64 },
     /// 10, and `input too long`: the input has more than 67,108,864 bytes.
     TooLong,
 }
@@ -42,6 +44,7 @@ impl Status {
             Status::NoMemory => 4,
             Status::ReadFault => 5,
             Status::WriteFault => 6,
+            Status::Spent { .. } => 9,
             Status::TooLong => 10,
         }
     }
@@ -57,6 +60,7 @@ impl Status {
             }
             Status::Ring(fault) => print_ring_fault(alloc, fault, text),
             Status::Line { line, fault } => print_fault(alloc, line, fault, text),
+            Status::Spent { line } => print_spent(alloc, line, text),
             Status::TooLong => text.extend_from_slice(b"input too long\n"),
             Status::Done | Status::NoMemory | Status::ReadFault | Status::WriteFault => Ok(()),
         }
@@ -80,5 +84,14 @@ fn print_fault(alloc: Global, line: u64, fault: LineFault, text: &mut Bytes) -> 
 {
     let number = fault.number();
     let last = format!(in alloc; "line {line}: {number}\n")?;
+    text.extend_from_slice(last.as_bytes())
+}
+
+// Adds the line of a line that found the stamps spent to the text.
+fn print_spent(alloc: Global, line: u64, text: &mut Bytes) -> Result<(), NoMemory>
+    ensures ok { OnOk result (text.new ≡ text.old ++ last_line (Status.Spent line)) }
+    ensures err { OnErr result (text.new ≡ text.old) }
+{
+    let last = format!(in alloc; "line {line}: stamps spent\n")?;
     text.extend_from_slice(last.as_bytes())
 }

@@ -1,13 +1,11 @@
 //! Whole runs of the program over a source and a sink in memory.
 
-use crate::decide::GREATEST_INPUT;
-use crate::play::{PlayEnd, play};
 use crate::swift_main;
-use crate::world::World;
 use std::alloc::{AllocError, Global};
 use std::process::Abort;
 use std::test::Fail;
 use sw_io::{MemSink, MemSource};
+use sw_play::{GREATEST_SCRIPT, PlayEnd, World, play};
 use sw_ring::{Cluster, built_in};
 use sw_types::Bytes;
 
@@ -28,16 +26,209 @@ fn expect_run(
     rt: &impl Abort,
     alloc: Global,
     words: &[&str],
-    input: &[u8],
+    input: Vec<u8>,
     status: u8,
     text: &str,
 ) -> Result<(), Fail> {
     let line = command_line(alloc, words)?;
-    let mut source = MemSource::new(input.to_vec(alloc)?);
+    let mut source = MemSource::new(input);
     let mut sink = MemSink::new(alloc);
     let answer = swift_main(alloc, &line, &mut source, &mut sink);
-    assert_eq!(rt; answer, status, "{words:?} with {input:?}, to write {text}");
     assert_eq!(rt; sink.bytes(), text.as_bytes(), "{words:?}, to write {text}");
+    assert_eq!(rt; answer, status, "{words:?}, to write {text}");
+    Ok(())
+}
+
+// Runs a script behind the text of a ring, and compares what it writes.
+fn expect_done(
+    rt: &impl Abort,
+    alloc: Global,
+    ring: &str,
+    script: &str,
+    text: &str,
+) -> Result<(), Fail> {
+    let input = format!(in alloc; "{ring}\n{script}")?;
+    expect_run(
+        rt,
+        alloc,
+        &["play"],
+        input.as_bytes().to_vec(alloc)?,
+        0,
+        text,
+    )
+}
+
+#[test]
+fn tells_what_is_done(rt: HostRuntime) -> Result<(), Fail> {
+    let cases = [
+        (
+            "put a/c/o 616263\nget a/c/o",
+            "e 1 created 1000000000.00000 3\ne 2 found 1000000000.00000 616263 0,1\n",
+        ),
+        (
+            "put a/c/o 616263\nshow 0 a/c/o\nshow 1 a/c/o\nshow 2 a/c/o\nshow 3 a/c/o\n",
+            "e 1 created 1000000000.00000 3\n\
+             s 0 0 1000000000.00000 durable 6162\n\
+             s 1 1 1000000000.00000 durable 6300\n\
+             s 2 2 1000000000.00000 durable 9f31\n\
+             s 3 empty\n",
+        ),
+        (
+            "put a/c/o -\nhead a/c/o\nget a/c/o\nshow 2 a/c/o",
+            "e 1 created 1000000000.00000 3\n\
+             e 2 head 1000000000.00000 0 d41d8cd98f00b204e9800998ecf8427e\n\
+             e 3 found 1000000000.00000 - 0,1\n\
+             s 2 2 1000000000.00000 durable -\n",
+        ),
+        // A younger tombstone takes an older one away.
+        (
+            "put a/c/o 616263\ndel a/c/o\nget a/c/o\ndel a/c/o\nshow 2 a/c/o\n",
+            "e 1 created 1000000000.00000 3\n\
+             e 2 deleted 1000000000.00001 3 yes\n\
+             e 3 buried 1000000000.00001\n\
+             e 4 deleted 1000000000.00002 3 no\n\
+             s 2 - 1000000000.00002 tombstone\n",
+        ),
+        // The last put of a name counts.
+        (
+            "put a/c/o 61\nput a/c/p 62\nput a/c/o 6A6b\nget a/c/p\nget a/c/o\nget a/c/q",
+            "e 1 created 1000000000.00000 3\ne 2 created 1000000000.00001 3\n\
+             e 3 created 1000000000.00002 3\ne 4 found 1000000000.00001 62 0,1\n\
+             e 5 found 1000000000.00002 6a6b 0,1\ne 6 absent\n",
+        ),
+        (
+            "# fly\n\nget a/c//\n#\n\nhead a/c/o\r\n",
+            "e 1 absent\ne 2 absent\n",
+        ),
+        ("", ""),
+    ];
+    for (script, text) in cases {
+        expect_done(&rt, rt.alloc(), "", script, text)?;
+    }
+    Ok(())
+}
+
+// A ring stands before the first empty line, in one line or in more.
+#[test]
+fn runs_over_any_ring(rt: HostRuntime) -> Result<(), Fail> {
+    let cases = [
+        (
+            r#"{"part_power":0,"k":1,"m":1,"devices":[{"id":5},{"id":9}],"rows":[[9],[5]]}
+"#,
+            "put a/c/o 6162\nget a/c/o",
+            "e 1 created 1000000000.00000 2\ne 2 found 1000000000.00000 6162 0\n",
+        ),
+        (
+            r#"{"part_power": 1, "k": 3, "m": 2, "hash_prefix": "p",
+ "devices": [{"id": 7}, {"id": 3}, {"id": 1}, {"id": 2}, {"id": 65535}, {"id": 0}],
+ "rows": [[7, 1], [3, 2], [1, 3], [2, 7], [65535, 0]]}
+"#,
+            "put a/c/o 0001020304\nput a/c/p ff\nget a/c/o\nget a/c/p\nget a/c/q",
+            "e 1 created 1000000000.00000 5\ne 2 created 1000000000.00001 5\n\
+             e 3 found 1000000000.00000 0001020304 0,1,2\n\
+             e 4 found 1000000000.00001 ff 0,1,2\ne 5 absent\n",
+        ),
+        (
+            r#"{"part_power":0,"k":2,"m":2,"devices":[{"id":0},{"id":1},{"id":2},{"id":3}],"rows":[[0],[1],[2],[3]]}
+"#,
+            "put a/c/o 6162\nshow 0 a/c/o\nshow 1 a/c/o\nshow 2 a/c/o\nshow 3 a/c/o",
+            "e 1 created 1000000000.00000 4\n\
+             s 0 0 1000000000.00000 durable 61\n\
+             s 1 1 1000000000.00000 durable 62\n\
+             s 2 2 1000000000.00000 durable 6b\n\
+             s 3 3 1000000000.00000 durable e5\n",
+        ),
+        // A body of three segments, of which the last is shorter.
+        (
+            r#"{"part_power":0,"k":2,"m":1,"q":3,"c":2,"segment":4,"devices":[{"id":0},{"id":1},{"id":2},{"id":3}],"rows":[[0],[1],[2]]}
+"#,
+            "put a/c/o 000102030405060708\nshow 0 a/c/o\nshow 1 a/c/o\nshow 2 a/c/o\nget a/c/o",
+            "e 1 created 1000000000.00000 3\n\
+             s 0 0 1000000000.00000 durable 0001040508\n\
+             s 1 1 1000000000.00000 durable 0203060700\n\
+             s 2 2 1000000000.00000 durable f58f007a04\n\
+             e 2 found 1000000000.00000 000102030405060708 0,1\n",
+        ),
+        // Device 0 has no space for the archive, and device 3 takes it.
+        (
+            r#"{"part_power":0,"k":2,"m":1,"q":3,"c":2,"devices":[{"id":0,"capacity":102},{"id":1},{"id":2},{"id":3}],"rows":[[0],[1],[2]]}
+"#,
+            "put a/c/o 616263\nshow 0 a/c/o\nshow 3 a/c/o",
+            "e 1 created 1000000000.00000 3\ns 0 empty\n\
+             s 3 0 1000000000.00000 durable 6162\n",
+        ),
+        (
+            r#"{"part_power":0,"k":2,"m":1,"q":3,"c":2,"devices":[{"id":0,"capacity":102},{"id":1},{"id":2},{"id":3,"capacity":102}],"rows":[[0],[1],[2]]}
+"#,
+            "put a/c/o 616263",
+            "e 1 too-few-synced 2\n",
+        ),
+    ];
+    for (ring, script, text) in cases {
+        expect_done(&rt, rt.alloc(), ring, script, text)?;
+    }
+    Ok(())
+}
+
+#[test]
+fn ends_at_the_first_fault(rt: HostRuntime) -> Result<(), Fail> {
+    let cases = [
+        // The first rule that a ring breaks ends a run, whatever the script is.
+        ("{", 2, "ring: 1\n"),
+        ("put a/c/o 61\n\nget a/c/o", 2, "ring: 1\n"),
+        ("{}\n\nfly", 2, "ring: 2\n"),
+        (
+            r#"{"part_power":0,"k":30,"m":3,"devices":[{"id":0}],"rows":[]}"#,
+            2,
+            "ring: 3\n",
+        ),
+        (
+            r#"{"part_power":0,"k":2,"m":1,"devices":[{"id":0},{"id":1}],"rows":[[0],[1],[0]]}"#,
+            2,
+            "ring: 7\n",
+        ),
+        (
+            r#"{"part_power":17,"k":2,"m":1,"devices":[{"id":0}],"rows":[]}"#,
+            2,
+            "ring: 8\n",
+        ),
+        // Without an empty line there is no script.
+        (
+            r#"{"part_power":0,"k":1,"m":1,"devices":[{"id":5},{"id":9}],"rows":[[9],[5]]}
+"#,
+            0,
+            "",
+        ),
+        ("\nfly", 3, "line 1: 1\n"),
+        ("\nput a/c/o 6g", 3, "line 1: 3\n"),
+        ("\nget a/c", 3, "line 1: 4\n"),
+        ("\nshow x a/c/o", 3, "line 1: 2\n"),
+        // The built-in ring has no device 9.
+        ("\nshow 9 a/c/o", 3, "line 1: 1\n"),
+        // Nothing is left open, and no device fails.
+        ("\nstart get a/c/o", 3, "line 1: 1\n"),
+        ("\nlose 0", 3, "line 1: 1\n"),
+        ("\nrecon 0 a/c/o", 3, "line 1: 1\n"),
+        (
+            "\nput a/c/o 61\n\nput a/c/o 6g\nget a/c/o",
+            3,
+            "e 1 created 1000000000.00000 3\nline 3: 3\n",
+        ),
+    ];
+    for (input, status, text) in cases {
+        let input = input.as_bytes().to_vec(rt.alloc())?;
+        expect_run(&rt, rt.alloc(), &["play"], input, status, text)?;
+    }
+    Ok(())
+}
+
+#[test]
+fn knows_one_command(rt: HostRuntime) -> Result<(), Fail> {
+    let cases: [&[&str]; 5] = [&[], &["serve"], &["Play"], &["play", "more"], &[""]];
+    for words in cases {
+        let input = b"x".to_vec(rt.alloc())?;
+        expect_run(&rt, rt.alloc(), words, input, 1, USAGE)?;
+    }
     Ok(())
 }
 
@@ -50,191 +241,27 @@ fn filled(
     back: &str,
 ) -> Result<Vec<u8>, AllocError> {
     let mut text = front.as_bytes().to_vec(alloc)?;
-    for _ in 0..count {
-        text.push(byte)?;
-    }
+    text.extend_from_slice(&vec![in alloc; byte; count]?)?;
     text.extend_from_slice(back.as_bytes())?;
     Ok(text)
 }
 
+// A line of 65,536 bytes, and one of 65,537 whose only fault is its length; accounts of 256 and of 257 bytes; an input of
+// one byte too many.
 #[test]
-fn does_each_line(rt: HostRuntime) -> Result<(), Fail> {
-    let cases = [
-        (
-            "\nput a/c/o 616263\nget a/c/o",
-            "e 1 created 1000000000.00000 3\ne 2 found 1000000000.00000 616263 0,1\n",
-        ),
-        (
-            "\nput a/c/o -\nget a/c/o\n",
-            "e 1 created 1000000000.00000 3\ne 2 found 1000000000.00000 - 0,1\n",
-        ),
-        // The last put of a name counts, and hex is read in either case.
-        (
-            "\nput a/c/o 61\nput a/c/o 6A6b\nget a/c/o\n",
-            "e 1 created 1000000000.00000 3\ne 2 created 1000000000.00001 3\n\
-             e 3 found 1000000000.00001 6a6b 0,1\n",
-        ),
-        (
-            "\nput a/c/o FF\nget a/c/p\nput a/c/p 62\nget a/c/o\n",
-            "e 1 created 1000000000.00000 3\ne 2 absent\ne 3 created 1000000000.00001 3\n\
-             e 4 found 1000000000.00000 ff 0,1\n",
-        ),
-        ("\nget a/c/o", "e 1 absent\n"),
-        // An object may hold slashes, and it may end with a carriage return.
-        ("\nget a/c//", "e 1 absent\n"),
-        ("\nget a/c/o\r\n", "e 1 absent\n"),
-        ("", ""),
-        ("\n", ""),
-        ("\n\n\n", ""),
-    ];
-    for (input, text) in cases {
-        expect_run(&rt, rt.alloc(), &["play"], input.as_bytes(), 0, text)?;
-    }
-    Ok(())
-}
-
-// A ring stands before the first empty line, in one line or in more.
-#[test]
-fn runs_over_any_ring(rt: HostRuntime) -> Result<(), Fail> {
-    let cases = [
-        (
-            r#"{"part_power":0,"k":1,"m":1,"devices":[{"id":5},{"id":9}],"rows":[[9],[5]]}
-
-put a/c/o 6162
-get a/c/o"#,
-            "e 1 created 1000000000.00000 2\ne 2 found 1000000000.00000 6162 0\n",
-        ),
-        (
-            r#"{"part_power": 1, "k": 3, "m": 2, "hash_prefix": "p",
- "devices": [{"id": 7}, {"id": 3}, {"id": 1}, {"id": 2}, {"id": 65535}, {"id": 0}],
- "rows": [[7, 1], [3, 2], [1, 3], [2, 7], [65535, 0]]}
-
-put a/c/o 0001020304
-put a/c/p ff
-get a/c/o
-get a/c/p
-get a/c/q"#,
-            "e 1 created 1000000000.00000 5\ne 2 created 1000000000.00001 5\n\
-             e 3 found 1000000000.00000 0001020304 0,1,2\n\
-             e 4 found 1000000000.00001 ff 0,1,2\ne 5 absent\n",
-        ),
-        // A body of three segments, of which the last is shorter.
-        (
-            r#"{"part_power":0,"k":2,"m":1,"segment":4,"devices":[{"id":0},{"id":1},{"id":2},{"id":3}],"rows":[[0],[1],[2]]}
-
-put a/c/o 000102030405060708
-get a/c/o"#,
-            "e 1 created 1000000000.00000 3\n\
-             e 2 found 1000000000.00000 000102030405060708 0,1\n",
-        ),
-        // Without an empty line there is no script.
-        (
-            r#"{"part_power":0,"k":1,"m":1,"devices":[{"id":5},{"id":9}],"rows":[[9],[5]]}
-"#,
-            "",
-        ),
-    ];
-    for (input, text) in cases {
-        expect_run(&rt, rt.alloc(), &["play"], input.as_bytes(), 0, text)?;
-    }
-    Ok(())
-}
-
-// The first rule that a ring breaks ends a run, whatever the script is.
-#[test]
-fn names_the_rule_that_a_ring_breaks(rt: HostRuntime) -> Result<(), Fail> {
-    let cases = [
-        ("{", "ring: 1\n"),
-        ("put a/c/o 61\n\nget a/c/o", "ring: 1\n"),
-        ("{}\n\nfly", "ring: 2\n"),
-        (
-            r#"{"part_power":0,"k":30,"m":3,"devices":[{"id":0}],"rows":[]}"#,
-            "ring: 3\n",
-        ),
-        (
-            r#"{"part_power":0,"k":2,"m":1,"devices":[{"id":0},{"id":1}],"rows":[[0],[1],[0]]}"#,
-            "ring: 7\n",
-        ),
-        (
-            r#"{"part_power":17,"k":2,"m":1,"devices":[{"id":0}],"rows":[]}"#,
-            "ring: 8\n",
-        ),
-    ];
-    for (input, text) in cases {
-        expect_run(&rt, rt.alloc(), &["play"], input.as_bytes(), 2, text)?;
-    }
-    Ok(())
-}
-
-#[test]
-fn ends_at_the_first_fault(rt: HostRuntime) -> Result<(), Fail> {
-    let cases = [
-        ("x", 2, "ring: 1\n"),
-        ("\nfly", 3, "line 1: 1\n"),
-        (
-            "\nput a/c/o 61\n\nput a/c/o 6g\nget a/c/o",
-            3,
-            "e 1 created 1000000000.00000 3\nline 3: 1\n",
-        ),
-    ];
-    for (input, status, text) in cases {
-        expect_run(&rt, rt.alloc(), &["play"], input.as_bytes(), status, text)?;
-    }
-    Ok(())
-}
-
-#[test]
-fn refuses_faulty_lines(rt: HostRuntime) -> Result<(), Fail> {
-    let lines: [&[u8]; 17] = [
-        b"put a/c/o",
-        b"put a/c/o 6",
-        b"put a/c/o 61 ",
-        b"put a/c/o  61",
-        b"put a/c/o 61\r",
-        b"PUT a/c/o 61",
-        b"get a/c",
-        b"get a//o",
-        b"get a/c/",
-        b"get /c/o",
-        b"get a/c/o x",
-        b"get  a/c/o",
-        b"get a%2Fb/c/o",
-        b"get a/c/\0",
-        b"get a/c/\xff",
-        b"# x",
-        b" ",
-    ];
-    for line in lines {
-        let mut input = b"\n".to_vec(rt.alloc())?;
-        input.extend_from_slice(line)?;
-        expect_run(&rt, rt.alloc(), &["play"], &input, 3, "line 1: 1\n")?;
-    }
-    Ok(())
-}
-
-#[test]
-fn knows_one_command(rt: HostRuntime) -> Result<(), Fail> {
-    let cases: [&[&str]; 5] = [&[], &["serve"], &["Play"], &["play", "more"], &[""]];
-    for words in cases {
-        expect_run(&rt, rt.alloc(), words, b"x", 1, USAGE)?;
-    }
-    Ok(())
-}
-
-// A line of 65,536 bytes, and one of 65,537 whose only fault is its length; accounts of 256 and of 257 bytes.
-#[test]
-fn bounds_lines_and_names(rt: HostRuntime) -> Result<(), Fail> {
+fn bounds_lines_and_names_and_the_input(rt: HostRuntime) -> Result<(), Fail> {
     let alloc = rt.alloc();
     let created = "e 1 created 1000000000.00000 3\n";
     let cases = [
         ("\nput a/c/o ", b'6', 65_526, "", 0, created),
-        ("\nput a/c/oo ", b'6', 65_526, "", 3, "line 1: 1\n"),
+        ("\nput a/c/oo ", b'6', 65_526, "", 3, "line 1: 5\n"),
         ("\nget ", b'x', 256, "/c/o", 0, "e 1 absent\n"),
-        ("\nget ", b'x', 257, "/c/o", 3, "line 1: 1\n"),
+        ("\nget ", b'x', 257, "/c/o", 3, "line 1: 4\n"),
+        ("", b'#', 67_108_864, "\n", 10, "input too long\n"),
     ];
     for (front, byte, count, back, status, text) in cases {
         let input = filled(alloc, front, byte, count, back)?;
-        expect_run(&rt, alloc, &["play"], &input, status, text)?;
+        expect_run(&rt, alloc, &["play"], input, status, text)?;
     }
     Ok(())
 }
@@ -279,28 +306,20 @@ fn tells_failures_of_reading_and_writing(rt: HostRuntime) -> Result<(), Fail> {
     Ok(())
 }
 
-// Plays a script without a fault.
-fn play_whole(rt: &impl Abort, alloc: Global, script: &[u8], world: &mut World, text: &mut Bytes) {
-    assert!(rt; script.len() <= GREATEST_INPUT && world.operations() < 1 << 40);
-    assert_eq!(rt; play(alloc, script, world, text), PlayEnd::Done);
-}
-
 #[test]
 fn plays_a_script_after_another(rt: HostRuntime) -> Result<(), Fail> {
     let alloc = rt.alloc();
     let cluster = Cluster::read(alloc, built_in())?;
     let mut world = World::new(alloc, cluster)?;
     let mut text = Bytes::new(alloc);
-    play_whole(&rt, alloc, b"put a/c/o 61\n", &mut world, &mut text);
-    play_whole(
-        &rt,
-        alloc,
-        b"get a/c/o\nput a/c/o 62",
-        &mut world,
-        &mut text,
-    );
+    let scripts: [&[u8]; 3] = [b"put a/c/o 61\n", b"get a/c/o\nput a/c/o 62", b"head a/c/o"];
+    for script in scripts {
+        assert!(rt; script.len() <= GREATEST_SCRIPT);
+        assert_eq!(rt; play(alloc, script, &mut world, &mut text), PlayEnd::Done);
+    }
     let want = "e 1 created 1000000000.00000 3\ne 2 found 1000000000.00000 61 0,1\n\
-                e 3 created 1000000000.00001 3\n";
+                e 3 created 1000000000.00001 3\n\
+                e 4 head 1000000000.00001 1 92eb5ffee6ae2fec3ad71c777531578f\n";
     assert_eq!(rt; text.as_slice(), want.as_bytes());
     Ok(())
 }

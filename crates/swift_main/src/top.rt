@@ -5,8 +5,8 @@ ghost use Rattle.std.specs.Io.KnownBytes.{Appends, Keeps};
 ghost use Rattle.sw_io.specs.Whole.{ConsumesFront};
 ghost use Rattle.sw_words.specs.Counts.{Rose};
 ghost use Rattle.sw_words.specs.Memory.{UnlessMemory};
-ghost use Rattle.swift_main.specs.Outcome.{greatest_input, is_play, outcome_of, status_code, text_of};
-ghost use Rattle.swift_main.specs.Top.{Broke, Decided, IsRead, Stopped};
+ghost use Rattle.swift_main.specs.Outcome.{greatest_input, is_play};
+ghost use Rattle.swift_main.specs.Top.{Broke, Decided, IsAnswered, IsRead, Stopped};
 
 use crate::decide::{GREATEST_INPUT, decide, is_play};
 use crate::status::Status;
@@ -16,6 +16,10 @@ use sw_io::{ReadError, Sink, Source, read_up_to, write_all};
 /// Runs the program: reads the whole input where the words are a command, decides by the words and the input, writes
 /// the text, and answers the exit status.
 ///
+/// What a script's words and input give is a run of it from an empty world on: a story of its events, of which the text is told. Each
+/// object that is found in the story is one put's, which the run's field `found` says: an object of this name was put at this stamp
+/// before, k different indices sent its archives, and an answer showed the stamp durable.
+///
 /// All clauses but `whole` hold whatever source and sink tell; `whole` says `decided` again of an input that is told.
 pub fn swift_main<S: Source, O: Sink>(
     alloc: Global,
@@ -23,8 +27,7 @@ pub fn swift_main<S: Source, O: Sink>(
     input: &mut S,
     output: &mut O,
 ) -> u8
-    // Unless memory, the input or the output fails, status and text are those of the outcome of the words and of the bytes
-    // that were read, and each found line tells of the last put of its name.
+    // Unless memory, the input or the output fails, status and text are what the words and the bytes that were read give.
     ensures decided { UnlessMemory 4 result (result ≢ 5 → result ≢ 6 →
         Decided (map (λ word. string_bytes word) words.now) (S.remaining input.old) (S.remaining input.new) (O.written output.old) (O.written output.new) result) }
 
@@ -32,7 +35,7 @@ pub fn swift_main<S: Source, O: Sink>(
     ensures usage { is_play (map (λ word. string_bytes word) words.now) ≡ false → UnlessMemory 4 result (result ≢ 6 → result ≡ 1) × Keeps (S.remaining input.old) (S.remaining input.new) }
     ensures usage_only { result ≡ 1 → is_play (map (λ word. string_bytes word) words.now) ≡ false }
 
-    // Where memory was refused, some first lines of the outcome are written, each whole.
+    // Where memory was refused, what is told of some first events is written, each whole.
     ensures no_memory { result ≡ 4 →
         Stopped (map (λ word. string_bytes word) words.now) (S.remaining input.old) (S.remaining input.new) (O.written output.old) (O.written output.new) }
 
@@ -47,10 +50,9 @@ pub fn swift_main<S: Source, O: Sink>(
     ensures input_quiet { result ≢ 5 → S.faults input.new ≡ S.faults input.old }
     ensures output_quiet { result ≢ 6 → O.faults output.new ≡ O.faults output.old }
 
-    // Where the source tells its whole input, status and text are those of the outcome of it.
+    // Where the source tells its whole input, status and text are what the words and it give.
     ensures whole { UnlessMemory 4 result (result ≢ 5 → result ≢ 6 → IfSome (S.remaining input.old) (λ whole.
-        let outcome = outcome_of (map (λ word. string_bytes word) words.now) whole in
-        (result ≡ status_code outcome.status) × Appends (O.written output.old) (O.written output.new) (text_of outcome))) }
+        IsAnswered (map (λ word. string_bytes word) words.now) whole (O.written output.old) (O.written output.new) result)) }
 {
     match read_input(alloc, words, input) {
         Ok(whole) => {

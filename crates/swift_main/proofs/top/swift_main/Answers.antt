@@ -1,11 +1,9 @@
-use Rattle.std.proofs.Common.{map, refl, sym, ◌∙◌, subst}
+use Rattle.std.proofs.Common.{map, refl, subst}
 use Rattle.std.specs.Prelude.{string_bytes}
 use Rattle.std.specs.Io.KnownBytes.{Appends}
 use Rattle.sw_io.specs.Whole.{AppendsProperFront}
-use Rattle.swift_main.specs.Answer.{Gives}
-use Rattle.swift_main.specs.Outcome.{outcome_of}
-use Rattle.swift_main.proofs.Outcomes.{no_memory_code}
-use Rattle.swift_main.proofs.Outsides.{broke, decided, decided_whole, stopped, stopped_reading}
+use Rattle.swift_main.specs.Answer.{IsAnswer}
+use Rattle.swift_main.proofs.Outsides.{broke, decided, decided_whole}
 use Rattle.swift_main.proofs.top.swift_main.Goals as goal
 
 pub returns-in-Ok-write_all-clause-decided : goal.returns-in-Ok-write_all-clause-decided
@@ -13,7 +11,7 @@ returns-in-Ok-write_all-clause-decided g c goes no_read_fault no_write_fault =
     let words = map (λ word. string_bytes word) c.args.words.now in
     decided words (g.S.Source.remaining c.args.input.now) (g.S.Source.remaining c.read_input.new.input) (g.O.Sink.written c.args.output.now) (g.O.Sink.written c.write_all.new.sink)
     c.in-Ok.whole.items c.decide-answer.result c.code.result c.in-Ok.ensures.read
-    (subst (λ input. Gives (outcome_of words input) c.decide-answer.result) c.deref.ensures.value c.decide-answer.ensures)
+    (subst (λ input. IsAnswer words input c.decide-answer.result) c.deref.ensures.value c.decide-answer.ensures)
     (subst (λ text. Appends (g.O.Sink.written c.args.output.now) (g.O.Sink.written c.write_all.new.sink) text) c.as_slice.ensures c.in-Ok-write_all.ensures.whole) c.code.ensures goes
 
 pub returns-in-Ok-write_all-clause-whole : goal.returns-in-Ok-write_all-clause-whole
@@ -21,25 +19,12 @@ returns-in-Ok-write_all-clause-whole g c goes no_read_fault no_write_fault =
     decided_whole (map (λ word. string_bytes word) c.args.words.now) (g.S.Source.remaining c.args.input.now) (g.S.Source.remaining c.read_input.new.input) (g.O.Sink.written c.args.output.now)
     (g.O.Sink.written c.write_all.new.sink) c.code.result (returns-in-Ok-write_all-clause-decided g c goes no_read_fault no_write_fault)
 
-pub returns-in-Ok-write_all-clause-no_memory : goal.returns-in-Ok-write_all-clause-no_memory
-returns-in-Ok-write_all-clause-no_memory g c four =
-    let words = map (λ word. string_bytes word) c.args.words.now in
-    stopped words (g.S.Source.remaining c.args.input.now) (g.S.Source.remaining c.read_input.new.input) (g.O.Sink.written c.args.output.now) (g.O.Sink.written c.write_all.new.sink)
-    c.in-Ok.whole.items c.decide-answer.result c.in-Ok.ensures.read
-    (subst (λ input. Gives (outcome_of words input) c.decide-answer.result) c.deref.ensures.value c.decide-answer.ensures)
-    (subst (λ text. Appends (g.O.Sink.written c.args.output.now) (g.O.Sink.written c.write_all.new.sink) text) c.as_slice.ensures c.in-Ok-write_all.ensures.whole)
-    (no_memory_code c.decide-answer.result.status (sym c.code.ensures ∙ four))
-
 pub returns-in-Ok-clause-write_fault : goal.returns-in-Ok-clause-write_fault
 returns-in-Ok-clause-write_fault g c six =
     let words = map (λ word. string_bytes word) c.args.words.now in (
       c.in-Err.ensures.cause.cause refl,
       broke words (g.S.Source.remaining c.args.input.now) (g.S.Source.remaining c.read_input.new.input) (g.O.Sink.written c.args.output.now) (g.O.Sink.written c.write_all.new.sink)
           c.in-Ok.whole.items c.decide-answer.result c.in-Ok.ensures.read
-          (subst (λ input. Gives (outcome_of words input) c.decide-answer.result) c.deref.ensures.value c.decide-answer.ensures)
+          (subst (λ input. IsAnswer words input c.decide-answer.result) c.deref.ensures.value c.decide-answer.ensures)
           (subst (λ text. AppendsProperFront (g.O.Sink.written c.args.output.now) (g.O.Sink.written c.write_all.new.sink) text) c.as_slice.ensures c.in-Err.ensures.front),
     )
-
-pub returns-clause-no_memory : goal.returns-clause-no_memory
-returns-clause-no_memory g c four =
-    stopped_reading (map (λ word. string_bytes word) c.args.words.now) (g.S.Source.remaining c.args.input.now) (g.S.Source.remaining c.read_input.new.input) (g.O.Sink.written c.args.output.now) c.in-Err-NoMemory.ensures.front

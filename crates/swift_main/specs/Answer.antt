@@ -1,0 +1,22 @@
+-- An answer of the program to its words and its whole input.
+use Rattle.std.specs.Prelude.{◌≡◌, ◌⊎◌, ℕ, List, []}
+use Rattle.sw_words.specs.Memory.{UnlessMemory}
+use Rattle.swift_main.specs.declared.decide.Answer.{Answer}
+use Rattle.swift_main.specs.declared.status.Status.{Status}
+use Rattle.swift_main.specs.declared.status.Status.TheVariants.{NoMemory}
+use Rattle.swift_main.specs.Outcome.{Gives, GivesPart, text_of}
+
+-- Status and text are what the words and the input give, unless memory was wanted: then the text is what is told of some first events.
+pub record IsAnswer (words : List (List ℕ)) (input : List ℕ) (answer : Answer) : Type 0 where
+  pub whole : UnlessMemory NoMemory answer.status ((told : List ℕ) × Gives words input answer.status told × (answer.text ≡ text_of answer.status told))
+  pub part : answer.status ≡ NoMemory → GivesPart words input answer.text
+
+-- the same of a part of the input, by what that gives
+pub record IsAnswerBy (gives : Status → List ℕ → Type 0) (answer : Answer) : Type 0 where
+  pub whole : UnlessMemory NoMemory answer.status ((told : List ℕ) × gives answer.status told × (answer.text ≡ text_of answer.status told))
+  pub part : answer.status ≡ NoMemory → (answer.text ≡ []) ⊎ gives NoMemory answer.text
+
+-- of a status that nothing is told with: its last line is all
+pub record IsLastLine (status : Status) (answer : Answer) : Type 0 where
+  pub whole : UnlessMemory NoMemory answer.status ((answer.status ≡ status) × (answer.text ≡ text_of status []))
+  pub part : answer.status ≡ NoMemory → answer.text ≡ []
