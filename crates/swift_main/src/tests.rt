@@ -205,7 +205,7 @@ fn ends_at_the_first_fault(rt: HostRuntime) -> Result<(), Fail> {
         ("\nshow x a/c/o", 3, "line 1: 2\n"),
         // The built-in ring has no device 9.
         ("\nshow 9 a/c/o", 3, "line 1: 1\n"),
-        // Nothing is left open, and no device fails.
+        // Forms that are read and not done yet.
         ("\nstart get a/c/o", 3, "line 1: 1\n"),
         ("\nlose 0", 3, "line 1: 1\n"),
         ("\nrecon 0 a/c/o", 3, "line 1: 1\n"),
