@@ -1,28 +1,22 @@
 -- The event of a line, done or not.
-use Rattle.std.proofs.Common.{◌≡◌, Bool, true, List, [], ◌∷◌, ◌++◌, Option, Some, Result, Ok, Err, ℕ, cond, ap, refl, sym, ◌∙◌, append-nil}
+use Rattle.std.proofs.Common.{◌≡◌, List, [], ◌∷◌, ◌++◌, None, Some, Result, Ok, Err, ℕ, ap, refl, sym, ◌∙◌, append-nil}
 use Rattle.std.specs.Prelude.{IfErr, OnOk, ⊤}
 use Rattle.sw_ring.specs.Cluster.{ClusterModel}
 use Rattle.sw_script.specs.Line.{event_of}
 use Rattle.sw_script.specs.declared.event.Event.{Event}
-use Rattle.sw_script.specs.declared.fault.LineFault.{LineFault}
-use Rattle.sw_script.specs.declared.fault.LineFault.TheVariants as fault
 use Rattle.sw_told.specs.Text.{told_text}
 use Rattle.sw_play.specs.Lines.{DoesLine, StopsEvent, StopsLine, TellsEvent}
-use Rattle.sw_play.specs.Script.{accepted, line_event}
+use Rattle.sw_play.specs.Script.{accepted, line_event, unless_faulty}
 use Rattle.sw_play.specs.Standing.{WorldModel}
-use Rattle.sw_play.specs.World.{World, is_accepted}
+use Rattle.sw_play.specs.World.{World, event_fault}
 use Rattle.sw_play.specs.declared.playing.LineStop.{LineStop}
 use Rattle.sw_play.specs.declared.playing.LineStop.TheVariants.{Fault, Spent, NoMemory}
 
 -- a line tells an event that scripts of the cluster have
-pub tells_event : (cluster : ClusterModel) (line : List ℕ) (event : Event) → event_of line ≡ Ok (Some event) → is_accepted cluster event ≡ true → line_event cluster line ≡ Ok (Some event)
-tells_event cluster line event read known =
-    ap (accepted cluster) read ∙ ap (λ (is : Bool). cond is told (Err fault.Form)) known
-  where
-    told : Result (Option Event) LineFault
-    told = Ok (Some event)
+pub tells_event : (cluster : ClusterModel) (line : List ℕ) (event : Event) → event_of line ≡ Ok (Some event) → event_fault cluster event ≡ None → line_event cluster line ≡ Ok (Some event)
+tells_event cluster line event read known = ap (accepted cluster) read ∙ ap (unless_faulty event) known
 
-module _ (line : List ℕ) (event : Event) (old new : WorldModel) (read : event_of line ≡ Ok (Some event)) (known : is_accepted old.cluster event ≡ true) where
+module _ (line : List ℕ) (event : Event) (old new : WorldModel) (read : event_of line ≡ Ok (Some event)) (known : event_fault old.cluster event ≡ None) where
   -- what its event does
   pub event_line : (before : World) (text more : List ℕ) (result : Result ⊤ LineStop) → OnOk result (TellsEvent old.cluster before event new text more) → OnOk result (DoesLine old.cluster before line new text more)
   event_line before text more (Ok done) does = record {

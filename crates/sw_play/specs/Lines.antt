@@ -1,10 +1,9 @@
 -- What one line of a script does to a world and to the text of what is told.
-use Rattle.std.specs.Prelude.{◌≡◌, ◌≢◌, ◌<◌, true, List, ◌++◌, ℕ, Option, Some, Ok, Err, option_to_list}
+use Rattle.std.specs.Prelude.{◌≡◌, ◌<◌, true, List, ◌++◌, ℕ, Option, Some, Ok, Err, option_to_list}
 use Rattle.sw_types.specs.Stamp.{greatest_stamp}
 use Rattle.sw_ring.specs.Cluster.{ClusterModel}
 use Rattle.sw_message.specs.Transcript.{Step}
 use Rattle.sw_script.specs.declared.event.Event.{Event}
-use Rattle.sw_script.specs.declared.fault.LineFault.TheVariants as fault
 use Rattle.sw_told.specs.Text.{told_text}
 use Rattle.sw_told.specs.declared.told.Told.{Told}
 use Rattle.sw_play.specs.Script.{line_event}
@@ -42,6 +41,6 @@ StopsEvent event (Fault fault) old new = ⊥
 
 -- nor was that of a line, or the line is faulty
 abbrev pub StopsLine : List ℕ → LineStop → WorldModel → WorldModel → Type 0
-StopsLine line (Fault given) old new = (line_event old.cluster line ≡ Err given) × (given ≢ fault.NoMemory) × (new ≡ old)
+StopsLine line (Fault fault) old new = (line_event old.cluster line ≡ Err fault) × (new ≡ old)
 StopsLine line Spent old new = (event : Event) × (line_event old.cluster line ≡ Ok (Some event)) × StopsEvent event Spent old new
 StopsLine line NoMemory old new = new.is_wanting ≡ true

@@ -1,15 +1,18 @@
 -- The events of a script, with the lines that tell them, up to the first faulty line.
-use Rattle.std.specs.Prelude.{ℕ, ◌+◌, if◌then◌else◌, List, [], ◌∷◌, Option, Some, None, Result, Ok, Err}
+use Rattle.std.specs.Prelude.{ℕ, ◌+◌, List, [], ◌∷◌, Option, Some, None, Result, Ok, Err}
 use Rattle.sw_ring.specs.Cluster.{ClusterModel}
 use Rattle.sw_script.specs.Line.{event_of}
 use Rattle.sw_script.specs.declared.event.Event.{Event}
 use Rattle.sw_script.specs.declared.fault.LineFault.{LineFault}
-use Rattle.sw_script.specs.declared.fault.LineFault.TheVariants.{Form}
-use Rattle.sw_play.specs.World.{is_accepted}
+use Rattle.sw_play.specs.World.{event_fault}
 
--- an event of a line that scripts of the cluster have no such form of is a fault of the line
+abbrev pub unless_faulty : Event → Option LineFault → Result (Option Event) LineFault
+unless_faulty event None = Ok (Some event)
+unless_faulty event (Some fault) = Err fault
+
+-- an event has its line's fault where scripts of the cluster have no such event
 abbrev pub accepted : ClusterModel → Result (Option Event) LineFault → Result (Option Event) LineFault
-accepted cluster (Ok (Some event)) = if is_accepted cluster event then Ok (Some event) else Err Form
+accepted cluster (Ok (Some event)) = unless_faulty event (event_fault cluster event)
 accepted cluster (Ok None) = Ok None
 accepted cluster (Err fault) = Err fault
 

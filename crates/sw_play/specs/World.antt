@@ -21,6 +21,8 @@ use Rattle.sw_script.specs.declared.event.Event.{Event}
 use Rattle.sw_script.specs.declared.event.Event.TheVariants as event
 use Rattle.sw_script.specs.declared.event.Job.{Job}
 use Rattle.sw_script.specs.declared.event.Job.TheVariants as job
+use Rattle.sw_script.specs.declared.fault.LineFault.{LineFault}
+use Rattle.sw_script.specs.declared.fault.LineFault.TheVariants.{Form, NoDevice}
 use Rattle.sw_told.specs.declared.end.OpEnd.{OpEnd}
 use Rattle.sw_told.specs.declared.end.OpEnd.TheVariants.{Put, Get, Head, Delete}
 use Rattle.sw_told.specs.declared.told.Told.{Told}
@@ -149,15 +151,17 @@ DoesEvent cluster before other past told after = ⊥
 
 -- ---- which events there are
 
-abbrev pub is_known_job : Job → Bool
-is_known_job (job.Recon device name) = false
-is_known_job other = true
+-- puts, gets, heads and deletes are done
+abbrev pub job_fault : Job → Option LineFault
+job_fault (job.Recon device name) = Some Form
+job_fault other = None
 
--- scripts have puts, gets, heads and deletes that run at once, and devices of the cluster are shown
-abbrev pub is_accepted : ClusterModel → Event → Bool
-is_accepted cluster (event.Run job) = is_known_job job
-is_accepted cluster (event.Show device name) = is_among (ids_of cluster) device
-is_accepted cluster other = false
+-- The fault of an event's line in scripts of the cluster: its form is not done yet, or it names no device. Jobs run at once, and devices
+-- are shown.
+abbrev pub event_fault : ClusterModel → Event → Option LineFault
+event_fault cluster (event.Run job) = job_fault job
+event_fault cluster (event.Show device name) = if is_among (ids_of cluster) device then None else Some NoDevice
+event_fault cluster other = Some Form
 
 -- an event that draws a stamp
 abbrev pub is_drawing : Event → Bool

@@ -1,10 +1,10 @@
 //! A whole script over a world.
 
-ghost use Rattle.std.specs.Prelude.{◌≡◌, ◌≤◌, true, IfErr, OnErr, OnOk, length};
+ghost use Rattle.std.specs.Prelude.{◌≡◌, ◌≤◌, None, IfErr, OnErr, OnOk, length};
 ghost use Rattle.sw_play.specs.Lines.{DoesLine, StopsEvent, StopsLine, TellsEvent};
 ghost use Rattle.sw_play.specs.Play.{Played, greatest_script};
 ghost use Rattle.sw_play.specs.Standing.{StandsFor};
-ghost use Rattle.sw_play.specs.World.{World as AWorld, is_accepted};
+ghost use Rattle.sw_play.specs.World.{World as AWorld, event_fault};
 ghost use Rattle.sw_script.specs.Line.{lines_of};
 
 use crate::fault::StepFault;
@@ -74,12 +74,10 @@ fn do_line(alloc: Global, line: &[u8], world: &mut World, text: &mut Bytes) -> R
     ensures cluster { world.new.cluster ≡ world.old.cluster }
 {
     match Event::read(alloc, line) {
-        Ok(Some(event)) => {
-            if !world.accepts(&event) {
-                return Err(LineStop::Fault(LineFault::Form));
-            }
-            do_event(alloc, &event, world, text)
-        }
+        Ok(Some(event)) => match world.fault_of(&event) {
+            Some(fault) => Err(LineStop::Fault(fault)),
+            None => do_event(alloc, &event, world, text),
+        },
         Ok(None) => Ok(()),
         Err(LineFault::NoMemory) => {
             world.give_up();
@@ -96,7 +94,7 @@ fn do_event(
     world: &mut World,
     text: &mut Bytes,
 ) -> Result<(), LineStop>
-    requires { is_accepted world.old.cluster event.now ≡ true }
+    requires { event_fault world.old.cluster event.now ≡ None }
     ensures ok { (before : AWorld) → StandsFor world.old before → OnOk result (TellsEvent world.old.cluster before event.now world.new text.old text.new) }
     ensures stops { IfErr result (λ stop. StopsEvent event.now stop world.old world.new) }
     ensures text { OnErr result (text.new ≡ text.old) }

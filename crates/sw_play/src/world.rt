@@ -1,6 +1,6 @@
 //! The world of a script.
 
-ghost use Rattle.std.specs.Prelude.{◌≡◌, ◌<◌, ◌≤◌, ◌==◌, false, true, List, [], IfErr, IfOk, IfSome, IsErrOf, MatchOption, OnOk, is_some, position};
+ghost use Rattle.std.specs.Prelude.{◌≡◌, ◌<◌, ◌≤◌, ◌==◌, false, true, List, [], None, IfErr, IfOk, IfSome, IsErrOf, MatchOption, OnOk, is_some, position};
 ghost use Rattle.std.specs.List.{All};
 ghost use Rattle.sw_types.specs.Stamp.{greatest_stamp};
 ghost use Rattle.sw_hashpath.specs.Place.{folder_of};
@@ -13,7 +13,7 @@ ghost use Rattle.sw_nodes.specs.Nodes.{devices_of};
 ghost use Rattle.sw_script.specs.declared.event.Event.TheVariants.{Run};
 ghost use Rattle.sw_play.specs.Show.{IsReadable, IsShown};
 ghost use Rattle.sw_play.specs.Standing.{StandsFor};
-ghost use Rattle.sw_play.specs.World.{DoesDelete, DoesEvent, DoesGet, DoesJob, DoesPut, DoesShow, World as AWorld, empty_world, is_accepted, is_drawing, is_known_job, next_stamp};
+ghost use Rattle.sw_play.specs.World.{DoesDelete, DoesEvent, DoesGet, DoesJob, DoesPut, DoesShow, World as AWorld, empty_world, event_fault, is_drawing, job_fault, next_stamp};
 
 use crate::fault::StepFault;
 use crate::running::{run_delete, run_get, run_put};
@@ -22,7 +22,7 @@ use std::alloc::Global;
 use std::marker::Model;
 use sw_nodes::Nodes;
 use sw_ring::{Cluster, Device};
-use sw_script::{Event, Job};
+use sw_script::{Event, Job, LineFault};
 use sw_told::Told;
 use sw_types::{Items, Name, NoMemory, Object, Stamp};
 
@@ -70,15 +70,19 @@ impl World {
         self.nodes.cluster()
     }
 
-    /// Whether scripts of the cluster have such an event.
-    pub fn accepts(&self, event: &Event) -> bool
-        ensures { result ≡ is_accepted self.now.cluster event.now }
+    /// What is wrong with an event's line, if scripts of the cluster have no such event: its form is not done yet, or it names no
+    /// device.
+    pub fn fault_of(&self, event: &Event) -> Option<LineFault>
+        ensures { result ≡ event_fault self.now.cluster event.now }
     {
         match event {
-            Event::Run(Job::Recon { .. }) => false,
-            Event::Run(_) => true,
-            Event::Show { device, name: _ } => self.device_of(*device).is_some(),
-            _ => false,
+            Event::Run(Job::Recon { .. }) => Some(LineFault::Form),
+            Event::Run(_) => None,
+            Event::Show { device, name: _ } => match self.device_of(*device) {
+                Some(_) => None,
+                None => Some(LineFault::NoDevice),
+            },
+            _ => Some(LineFault::Form),
         }
     }
 
@@ -101,7 +105,7 @@ impl World {
     /// Does an event, and answers what is told of it. Where the stamps are spent the world is as before. Once it wanted memory it
     /// answers so from then on.
     pub fn step(&mut self, event: &Event) -> Result<Told, StepFault>
-        requires accepted { is_accepted self.old.cluster event.now ≡ true }
+        requires accepted { event_fault self.old.cluster event.now ≡ None }
         ensures does { (before : AWorld) → StandsFor self.old before →
             IfOk result (λ told. (past : List Step) × (after : AWorld) × DoesEvent self.old.cluster before event.now past told after × StandsFor self.new after) }
         ensures spent { IsErrOf result StepFault.StampsSpent → (is_drawing event.now ≡ true) × (greatest_stamp < next_stamp self.old.last) × (self.new ≡ self.old) }
@@ -122,7 +126,7 @@ impl World {
     // Runs an operation at once.
     fn run(&mut self, job: &Job) -> Result<Told, StepFault>
         requires goes_on { self.old.is_wanting ≡ false }
-        requires known { is_known_job job.now ≡ true }
+        requires known { job_fault job.now ≡ None }
         ensures does { (before : AWorld) → StandsFor self.old before →
             IfOk result (λ told. (past : List Step) × (after : AWorld) × DoesJob self.old.cluster before job.now past told after × StandsFor self.new after) }
         ensures spent { IsErrOf result StepFault.StampsSpent → (is_drawing (Run job.now) ≡ true) × (greatest_stamp < next_stamp self.old.last) × (self.new ≡ self.old) }

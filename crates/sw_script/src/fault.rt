@@ -8,7 +8,7 @@ use std::alloc::AllocError;
 use sw_types::NoMemory;
 use thiserror::Error;
 
-/// The first fault of a line, in the order in which they are tried.
+/// The first fault of a line, in the order in which they are tried. That of a device is found where there is a ring.
 #[derive(Clone, Copy, Debug, PartialEq, Eq, Error)]
 pub enum LineFault {
     /// It has more than 65,536 bytes.
@@ -26,6 +26,9 @@ pub enum LineFault {
     /// A body is no hex text.
     #[error("not hex")]
     BadHex,
+    /// The ring has no device of a number.
+    #[error("no such device")]
+    NoDevice,
     #[error("out of memory")]
     NoMemory,
 }
@@ -41,6 +44,7 @@ impl LineFault {
             LineFault::BadHex => 3,
             LineFault::BadName => 4,
             LineFault::TooLong => 5,
+            LineFault::NoDevice => 7,
             LineFault::NoMemory => 0,
         }
     }

@@ -204,7 +204,7 @@ fn ends_at_the_first_fault(rt: HostRuntime) -> Result<(), Fail> {
         ("\nget a/c", 3, "line 1: 4\n"),
         ("\nshow x a/c/o", 3, "line 1: 2\n"),
         // The built-in ring has no device 9.
-        ("\nshow 9 a/c/o", 3, "line 1: 1\n"),
+        ("\nshow 9 a/c/o", 3, "line 1: 7\n"),
         // Forms that are read and not done yet.
         ("\nstart get a/c/o", 3, "line 1: 1\n"),
         ("\nlose 0", 3, "line 1: 1\n"),

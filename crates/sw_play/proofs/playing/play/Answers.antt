@@ -50,7 +50,7 @@ returns-in-Err-Fault-clause-played c before stands =
     subst (λ (fault : LineFault). Played cluster before all (Line (c.lines.number + 1) fault) c.do_line.new.world c.args.text.now c.do_line.new.text) (sym c.in-Err-Fault.fault-is)
     (subst (λ (text : List ℕ). Played cluster before all (Line (c.lines.number + 1) c.in-Err-Fault.fault) c.do_line.new.world c.args.text.now text) (sym c.in-Err-Fault.ensures.text)
     (played_line cluster before c.args.world.now c.lines.world c.args.text.now c.lines.text c.lines.number (lines_left (option_copied c.lines.left)) all stands refl (c.lines.invariant.progress before stands)
-    line (lines_left after) lines c.in-Err-Fault.fault (ap (λ (cluster : ClusterModel). line_event cluster line) (sym c.lines.invariant.cluster) ∙ stops.0) c.do_line.new.world stops.2))
+    line (lines_left after) lines c.in-Err-Fault.fault (ap (λ (cluster : ClusterModel). line_event cluster line) (sym c.lines.invariant.cluster) ∙ stops.0) c.do_line.new.world stops.1))
 
 pub returns-in-Err-Spent-clause-played : goal.returns-in-Err-Spent-clause-played
 returns-in-Err-Spent-clause-played c before stands =
