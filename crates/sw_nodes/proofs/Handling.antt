@@ -168,6 +168,9 @@ pub called : (all : NodesModel) → AreNodes all → (device place : ℕ) (msg :
 called all are device place msg reply later wanting handled mine says cause = record {
   reply = reply;
   answered = refl;
+  place = place;
+  once = handled;
+  mine = mine;
   handled = λ goes. subst (λ (id : ℕ). IsHandledBy all.cluster id msg reply (devices_of all.nodes) (devices_of later)) mine (handled_by all are place msg reply later handled (says goes).0 (says goes).1);
   same_cluster = refl;
   wanting = λ goes. (says goes).0;

@@ -58,10 +58,13 @@ pub record IsHandledAt (cluster : ClusterModel) (place : ℕ) (msg : Msg) (reply
   pub is_node : IsNode cluster seen_of new
   pub others : after ≡ slice_set before place new
 
--- A device handled a message at once. Unless some node wanted memory, that was the step of a node.
+-- The node of a device handled a message, once. Unless some node wanted memory, that was the step of a node.
 pub record Calls (before : NodesModel) (device : ℕ) (msg : Msg) (answer : Option Reply) (after : NodesModel) : Type 0 where
   pub reply : Reply
   pub answered : answer ≡ Some reply
+  pub place : ℕ
+  pub once : IsHandledAt before.cluster place msg reply before.nodes after.nodes
+  pub mine : once.old.device ≡ device
   pub handled : after.is_wanting ≡ false → IsHandledBy before.cluster device msg reply (devices_of before.nodes) (devices_of after.nodes)
   pub same_cluster : after.cluster ≡ before.cluster
   pub wanting : after.is_wanting ≡ false → before.is_wanting ≡ false

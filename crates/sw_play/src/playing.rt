@@ -1,6 +1,6 @@
 //! A whole script over a world.
 
-ghost use Rattle.std.specs.Prelude.{◌≡◌, ◌≤◌, None, IfErr, OnErr, OnOk, length};
+ghost use Rattle.std.specs.Prelude.{◌≡◌, ◌≤◌, true, None, IfErr, OnErr, OnOk, length};
 ghost use Rattle.sw_play.specs.Lines.{DoesLine, StopsEvent, StopsLine, TellsEvent};
 ghost use Rattle.sw_play.specs.Play.{Played, greatest_script};
 ghost use Rattle.sw_play.specs.Standing.{StandsFor};
@@ -36,8 +36,12 @@ pub enum PlayEnd {
 pub fn play(alloc: Global, input: &[u8], world: &mut World, text: &mut Bytes) -> PlayEnd
     requires { length input.now ≤ greatest_script }
     ensures played { (before : AWorld) → StandsFor world.old before → Played world.old.cluster before (lines_of input.now) result world.new text.old text.new }
+    ensures wanted { world.old.is_wanting ≡ true → (result ≡ PlayEnd.NoMemory) × (world.new.is_wanting ≡ true) × (text.new ≡ text.old) }
     ensures cluster { world.new.cluster ≡ world.old.cluster }
 {
+    if world.is_wanting() {
+        return PlayEnd::NoMemory;
+    }
     let mut left = Some(input);
     let mut number = 0;
     'lines: while let Some(script) = left {

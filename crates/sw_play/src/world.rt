@@ -86,6 +86,13 @@ impl World {
         }
     }
 
+    /// Whether memory was wanted: then it answers nothing else from then on.
+    pub fn is_wanting(&self) -> bool
+        ensures { result ≡ self.now.is_wanting }
+    {
+        self.nodes.is_wanting()
+    }
+
     /// Has it answer that memory is wanted from now on.
     pub(crate) fn give_up(&mut self)
         ensures wants { self.new.is_wanting ≡ true }
@@ -110,7 +117,7 @@ impl World {
             IfOk result (λ told. (past : List Step) × (after : AWorld) × DoesEvent self.old.cluster before event.now past told after × StandsFor self.new after) }
         ensures spent { IsErrOf result StepFault.StampsSpent → (is_drawing event.now ≡ true) × (greatest_stamp < next_stamp self.old.last) × (self.new ≡ self.old) }
         ensures wants { IsErrOf result StepFault.NoMemory → self.new.is_wanting ≡ true }
-        ensures goes_on { OnOk result (self.old.is_wanting ≡ false) }
+        ensures wanted { self.old.is_wanting ≡ true → IsErrOf result StepFault.NoMemory }
         ensures cluster { self.new.cluster ≡ self.old.cluster }
     {
         if self.nodes.is_wanting() {
