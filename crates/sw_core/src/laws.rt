@@ -26,7 +26,8 @@ pub fn alone_law()
 {}
 
 /// Where each archive in the files is that of a put, what a get finds is one put's whole object, from k sources of different indices
-/// that sent this get that put's archives, at a stamp that some answer showed durable.
+/// that sent this get that put's archives, at a stamp that some answer showed as a durable floor, the greatest once every device had
+/// answered.
 pub fn found_law()
     ensures { (begun : gets.Begun) (book : List Booked) (marks : List Marked) (before after : Devices) (past : List Step) (stamp : ℕ) (object : ObjectModel) (sources : List ATarget) →
         gets.IsBegun begun → IsSoundBook begun.cluster.policy book → AreFiled begun.cluster book before → RunsAlone begun.cluster (gets.IsNext begun) before past after →

@@ -1,40 +1,35 @@
 -- What the ends of a get show.
-use Rattle.std.proofs.Common.{◌≡◌, inl, inr, ℕ, zero, ◌+◌, ◌*◌, ◌==◌, ◌<◌, ◌≤◌, false, ◌||◌, Contains, ◌++◌, List, [], ◌∷◌, length, length-append, map, nat_lt, Option, Some, None, refl, sym, ap, subst, ◌∙◌, arith}
-use Rattle.std.specs.List.{All, filter}
+use Rattle.std.proofs.Common.{◌≡◌, inl, inr, ℕ, ◌+◌, ◌*◌, ◌==◌, ◌<◌, ◌≤◌, false, ◌||◌, Contains, ◌++◌, List, [], ◌∷◌, length, length-append, nat_lt, Option, Some, None, refl, sym, ap, subst, ◌∙◌, arith}
 use Rattle.std.proofs.lemmas.Bool.{cases_Bool, ltb-false, ltb-true, or_parts}
 use Rattle.std.proofs.lemmas.Bool.Decides.{nat_tests}
-use Rattle.std.proofs.lemmas.List.{length-map}
-use Rattle.std.proofs.lemmas.List.Elements.{All-append, All-cons, All-contains_itself, All-map, All-nil, All-push, All-weaker}
 use Rattle.std.proofs.lemmas.Option.{none-some, same_Some}
 use Rattle.sw_words.proofs.Rules.{kept}
 use Rattle.sw_types.specs.Policy.{PolicyModel, greatest_total, policy_fault}
 use Rattle.sw_types.specs.declared.policy.PolicyFault.TheVariants.{C, K, M, N, Q}
-use Rattle.sw_hashdir.specs.Listing.{ListingModel}
 use Rattle.sw_hashdir.specs.declared.floor.Floor.{Floor}
-use Rattle.sw_hashdir.specs.declared.floor.FloorKind.TheVariants.{Durable, Tombstone}
-use Rattle.sw_ring.proofs.Among.{Contains-cons}
-use Rattle.sw_message.specs.Floors.{IsHighest, durable_floor, floors_in, is_durable, tombstone_floor}
-use Rattle.sw_message.specs.Transcript.{IsRun, Step, opens}
+use Rattle.sw_hashdir.specs.declared.floor.FloorKind.TheVariants.{Durable}
+use Rattle.sw_message.specs.Floors.{IsHighest, floors_in, tombstone_floor}
+use Rattle.sw_message.specs.Transcript.{IsRun, Step}
 use Rattle.sw_message.specs.declared.message.Msg.{Msg}
 use Rattle.sw_message.specs.declared.message.Msg.TheVariants as message
 use Rattle.sw_message.specs.declared.miss.Miss.{Miss}
-use Rattle.sw_message.specs.declared.sent.Sent.{Sent}
-use Rattle.sw_message.specs.declared.target.Target.{Target}
 use Rattle.sw_message.proofs.Highest.{is_highest}
-use Rattle.sw_get.specs.Causes.{IsAbsent, IsBuried, IsKept, IsListed, IsOvertaken, IsTooFew, IsUnanswered, MissedIn}
+use Rattle.sw_get.specs.Causes.{IsAbsent, IsBuried, IsOvertaken, IsTooFew, IsUnanswered, LastRound, LeavesUnanswered}
 use Rattle.sw_get.specs.Get.{AreTurns, Begun, EndsAfter, Hears, IsBegun, IsEnd, IsNext, Sends, Turn, devices, events, facts_in, facts_of, failing, floors_shown, from_in, going_in, missing, most_kept, round_in, source_of}
 use Rattle.sw_get.specs.Meaning.{Brings, Lacks, Lists, Meaning, Misses}
-use Rattle.sw_get.specs.Round.{Facts, candidates, firsts, target_of}
+use Rattle.sw_get.specs.Round.{Facts, all_devices, target_of}
 use Rattle.sw_get.specs.declared.end.GetEnd.TheVariants as gets
 use Rattle.sw_get.specs.declared.round_end.Going.{Going}
 use Rattle.sw_get.specs.declared.round_end.Going.TheVariants as going
 use Rattle.sw_get.specs.declared.round_end.KeptEvent.{KeptEvent}
 use Rattle.sw_get.specs.declared.round_end.RoundEnd.TheVariants as round
-use Rattle.sw_get.proofs.Counts.{within as answers_few}
-use Rattle.sw_get.proofs.Goings.{GoingSays, SomeMissed, going_says}
-use Rattle.sw_get.proofs.Indices.{first_apart, first_indices, listed_indices}
-use Rattle.sw_get.proofs.Runs.{Keeps, all_kept, kept_now}
-use Rattle.sw_get.proofs.Shown.{all_shown, listed_more, target_shown}
+use Rattle.sw_get.proofs.Goings.{AreAllHeard, AreFetched, GoingSays, LeavesNone, SomeMissed}
+use Rattle.sw_get.proofs.Indices.{are_indices, first_indices}
+use Rattle.sw_get.proofs.Kept.{all_answered, count_indices, kept_now, level_so, wanting_so, were_kept}
+use Rattle.sw_get.proofs.Lists.{here}
+use Rattle.sw_get.proofs.Missed.{all_missed}
+use Rattle.sw_get.proofs.Runs.{Keeps, all_kept, says as going_known}
+use Rattle.sw_get.proofs.Shown.{IsTold, all_told, parts, shown_among, target_shown}
 
 -- ---- misses of a round
 
@@ -78,22 +73,10 @@ failed_few (Hears sent meaning ∷ turns) =
       length-append (facts_of turns).misses (missing sent.device meaning),
     )
 
-missed_more : (turns : List Turn) (turn : Turn) (one : ℕ × Miss) → MissedIn turns one → MissedIn (turn ∷ turns) one
-missed_more turns turn one is = (is.0, Contains-cons (Hears is.0 (Misses one.1)) turn turns is.1, is.2)
-
-missed_now : (turns : List Turn) (sent : Sent) (meaning : Meaning) → All (MissedIn (Hears sent meaning ∷ turns)) (missing sent.device meaning)
-missed_now turns sent (Lists listing) = All-nil (MissedIn (Hears sent (Lists listing) ∷ turns))
-missed_now turns sent (Lacks listing) = All-nil (MissedIn (Hears sent (Lacks listing) ∷ turns))
-missed_now turns sent (Brings archive) = All-nil (MissedIn (Hears sent (Brings archive) ∷ turns))
-missed_now turns sent (Misses how) =
-    All-cons (MissedIn (Hears sent (Misses how) ∷ turns)) (sent.device, how) [] (sent, (zero, omega arith, refl), refl) (All-nil (MissedIn (Hears sent (Misses how) ∷ turns)))
-
-all_missed : (turns : List Turn) → All (MissedIn turns) (facts_of turns).misses
-all_missed [] = All-nil (MissedIn [])
-all_missed (Sends sent ∷ turns) = All-weaker (MissedIn turns) (MissedIn (Sends sent ∷ turns)) (missed_more turns (Sends sent)) (facts_of turns).misses (all_missed turns)
-all_missed (Hears sent meaning ∷ turns) =
-    All-append (MissedIn (Hears sent meaning ∷ turns)) (facts_of turns).misses (missing sent.device meaning)
-    (All-weaker (MissedIn turns) (MissedIn (Hears sent meaning ∷ turns)) (missed_more turns (Hears sent meaning)) (facts_of turns).misses (all_missed turns)) (missed_now turns sent meaning)
+-- a list that has nothing is empty
+nil_from_none : {A : Type 0} (xs : List A) → ((x : A) → Contains xs x → ⊥) → xs ≡ []
+nil_from_none [] none = refl
+nil_from_none (x ∷ xs) none = absurd (none x (here x xs))
 
 -- ---- how it ended
 
@@ -163,20 +146,6 @@ module _ (begun : Begun) (turns : List Turn) where
   overtaken_by these (going.Fetch stamp source) is = absurd is
   overtaken_by these going.Wait is = absurd is
 
--- ---- tombstones
-
-abbrev Buries : List Step → Floor → Type 0
-Buries past floor = floor.kind ≡ Tombstone → (listing : ListingModel) × IsListed past listing × Contains listing.tombstones floor.stamp
-
-buries_listed : (past : List Step) (listing : ListingModel) → IsListed past listing → All (Buries past) (floors_in listing)
-buries_listed past listing is =
-    All-append (Buries past) (map durable_floor (filter is_durable listing.entries)) (map tombstone_floor listing.tombstones)
-    (All-map (Buries past) durable_floor (filter is_durable listing.entries) (λ i d below tombstone. absurd (cc)))
-    (All-map (Buries past) tombstone_floor listing.tombstones (λ i d below tombstone. (listing, is, All-contains_itself listing.tombstones i d below)))
-
-buries_more : (past : List Step) (step : Step) (floor : Floor) → Buries past floor → Buries (step ∷ past) floor
-buries_more past step floor shown tombstone = let before = shown tombstone in (before.0, listed_more past step before.0 before.1, before.2)
-
 -- ---- the ends
 
 module _ (begun : Begun) (valid : IsBegun begun) (past : List Step) (run : IsRun (IsNext begun) past) (turns : List Turn) (are : AreTurns begun past turns) where
@@ -190,9 +159,10 @@ module _ (begun : Begun) (valid : IsBegun begun) (past : List Step) (run : IsRun
   keeps = all_kept begun valid past run turns are
 
   says : (next : Going) → going_in begun turns ≡ next → GoingSays begun.cluster.policy (devices begun) from facts next
-  says next is =
-      let few = answers_few facts (opens past) [] keeps.counted in
-      subst (GoingSays begun.cluster.policy (devices begun) from facts) is (going_says begun.cluster.policy (devices begun) from facts keeps.within.asked_few keeps.within.tried_few few.1)
+  says next goes = going_known begun valid past turns keeps next goes
+
+  abbrev last_round : AreAllHeard (devices begun) facts → AreFetched begun.cluster.policy from facts → LastRound begun past
+  last_round heard fetched = record { turns = turns; are = are; all_answered = all_answered begun valid past run turns are heard fetched }
 
   -- nothing was fetched where the target is none, or a tombstone
   untried : ((to : Floor) → target_of from facts ≡ Some to → to.kind ≡ Durable → ⊥) → length facts.tried ≡ 0
@@ -205,31 +175,32 @@ module _ (begun : Begun) (valid : IsBegun begun) (past : List Step) (run : IsRun
   greatest : ((to : Floor) → target_of from facts ≡ Some to → to.kind ≡ Durable → ⊥) → IsHighest (floors_shown turns) (target_of from facts)
   greatest never = subst (IsHighest (floors_shown turns)) (keeps.level (untried never)) (is_highest (floors_shown turns))
 
+  -- no floor was shown, where there is no target
+  none_known : target_of from facts ≡ None → floors_shown turns ≡ []
+  none_known none = subst (IsHighest (floors_shown turns)) none (greatest (λ to target durable. absurd (none-some to (sym none ∙ target))))
+
   absent : going_in begun turns ≡ going.End round.Absent → IsAbsent begun past
   absent goes =
-      let says = (says (going.End round.Absent) goes).2 in
+      let known = says (going.End round.Absent) goes in
+      let none = none_known known.2.0 in
       record {
-        turns = turns;
-        are = are;
-        none_shown = subst (IsHighest (floors_shown turns)) says.0 (greatest (λ to target durable. absurd (none-some to (sym says.0 ∙ target))));
-        few_missed = says.1;
+        last = last_round known.0 known.1;
+        none_shown = λ listing shown. nil_from_none (floors_in listing)
+            (λ floor has. let among = shown_among begun past turns are listing shown.sent shown.given shown.told shown.shows floor has in
+            let never = subst (λ these. Contains these floor) none among in absurd (omega (arith, never.1)));
+        few_missed = known.2.1;
       }
 
   buried : (stamp : ℕ) → going_in begun turns ≡ going.End (round.Buried stamp) → IsBuried begun past stamp
   buried stamp goes =
-      let says = (says (going.End (round.Buried stamp)) goes).2 in
+      let known = says (going.End (round.Buried stamp)) goes in
       let never : (to : Floor) → target_of from facts ≡ Some to → to.kind ≡ Durable → ⊥ = λ to target durable.
-      let same = same_Some says.to to (sym says.target ∙ target) in absurd (cc (ap (λ (floor : Floor). floor.kind) same, says.kind_is, durable)) in
-      let floor : says.to ≡ tombstone_floor stamp =
-      ap (λ kind. record { stamp = says.to.stamp; kind = kind }) says.kind_is ∙ ap (λ n. record { stamp = n; kind = Tombstone }) (sym says.stamp_is) in
-      let shown = target_shown (Buries past) begun turns says.to (all_shown Buries buries_listed buries_more begun past turns are) says.target says.kind_is in
+      let same = same_Some (tombstone_floor stamp) to (sym known.2 ∙ target) in absurd (cc (ap (λ (floor : Floor). floor.kind) same, durable)) in
+      let highest : IsHighest (floors_shown turns) (Some (tombstone_floor stamp)) = subst (IsHighest (floors_shown turns)) known.2 (greatest never) in
       record {
-        turns = turns;
-        are = are;
-        greatest = subst (IsHighest (floors_shown turns)) (says.target ∙ ap (λ (one : Floor). Some one) floor) (greatest never);
-        listing = shown.0;
-        listed = shown.1;
-        tombstone = subst (Contains shown.0.tombstones) (sym says.stamp_is) shown.2;
+        last = last_round known.0 known.1;
+        shown = target_shown begun past turns (tombstone_floor stamp) are known.2;
+        greatest = λ listing floor shown has. highest.1 floor (shown_among begun past turns are listing shown.sent shown.given shown.told shown.shows floor has);
       }
 
   some_missed : SomeMissed begun.cluster.policy facts → 0 < length facts.misses
@@ -237,32 +208,42 @@ module _ (begun : Begun) (valid : IsBegun begun) (past : List Step) (run : IsRun
   some_missed (inr (inl some)) = some
   some_missed (inr (inr failed)) = omega (arith, failed, failed_few (round_in begun turns).turns)
 
+  why : AreAllHeard (devices begun) facts → AreFetched begun.cluster.policy from facts → LeavesNone begun.cluster.policy from facts → LeavesUnanswered begun turns
+  why heard fetched (inl none) = inl (none_known none.0, none.1)
+  why heard fetched (inr left) = inr (left.0, level_so begun turns left.0 left.1, wanting_so begun valid past run turns are heard fetched left.0 left.1.target left.2)
+
   unanswered : going_in begun turns ≡ going.End round.Unanswered → IsUnanswered begun past facts.misses
-  unanswered goes = record {
-    turns = turns;
-    are = are;
-    some = some_missed (says (going.End round.Unanswered) goes).2;
-    of_round = all_missed (round_in begun turns).turns;
-  }
+  unanswered goes =
+      let known = says (going.End round.Unanswered) goes in
+      let told = (parts (IsTold begun past) (length (all_devices (devices begun))) turns (all_told begun past turns are)).0 in
+      record {
+        last = last_round known.0 known.1;
+        some = some_missed known.2.1;
+        are = refl;
+        missed = all_missed begun past (round_in begun turns).turns told;
+        why = why known.0 known.1 known.2.0;
+      }
 
   too_few : (stamp have : ℕ) → going_in begun turns ≡ going.End (round.TooFew stamp have) → IsTooFew begun past stamp have
   too_few stamp have goes =
-      let says = (says (going.End (round.TooFew stamp have)) goes).2 in
+      let known = says (going.End (round.TooFew stamp have)) goes in
+      let few = known.2 in
+      let policy = begun.cluster.policy in
+      let counted = count_indices begun valid past run turns are known.0 known.1 stamp in
       record {
-        turns = turns;
-        are = are;
-        none_missed = says.none_missed;
-        few = says.few;
-        indices = first_indices begun facts stamp;
-        count = length-map (firsts (candidates begun.cluster.policy stamp facts)) (λ (target : Target). target.index) ∙ sym says.count;
-        apart = first_apart begun facts stamp;
-        listed = listed_indices begun facts stamp;
+        last = last_round known.0 known.1;
+        level = level_so begun turns stamp few.level;
+        none_missed = few.none_missed;
+        short = record { indices = first_indices policy facts stamp; are = are_indices policy facts stamp; few = omega (arith, few.few, few.count, counted) };
+        count = counted ∙ sym few.count;
       }
 
   overtaken : (event : KeptEvent) → going_in begun turns ≡ going.Keep event → most_kept ≤ length (events begun turns) → IsOvertaken begun past (events begun turns ++ event ∷ [])
   overtaken event goes many = record {
+    turns = turns;
+    are = are;
+    kept = kept_now begun valid past run turns are event goes (were_kept begun valid past run turns are);
     count = omega (arith, many, keeps.events_few, length-append (events begun turns) (event ∷ []));
-    all = All-push (IsKept begun past) (events begun turns) event keeps.events_kept (kept_now begun valid past turns keeps event (says (going.Keep event) goes).2);
   }
 
 -- ---- each end

@@ -11,29 +11,31 @@ use Rattle.sw_types.specs.Object.{ObjectModel}
 use Rattle.sw_types.specs.Stamp.{greatest_stamp}
 use Rattle.sw_types.proofs.Policies.{bounds}
 use Rattle.sw_hashdir.specs.declared.floor.Floor.{Floor}
+use Rattle.sw_hashdir.specs.declared.floor.FloorKind.TheVariants.{Durable}
 use Rattle.sw_archive.specs.Archive.{ArchiveModel, IsSound, archive_bytes}
 use Rattle.sw_archive.specs.Assemble.{AreEnough}
 use Rattle.sw_archive.specs.Put.{IsPut, put_fields}
 use Rattle.sw_archive.proofs.Objects.{no_archive, object_of_put, some_archive}
+use Rattle.sw_message.specs.Floors.{durable_at}
 use Rattle.sw_message.specs.Learnt.{AreKnown, Booked, KnowsReply, Learnt}
 use Rattle.sw_message.specs.Targets.{ascending, is_before, with_target}
-use Rattle.sw_message.specs.Transcript.{Gave, IsRun, Step, Told, opens}
+use Rattle.sw_message.specs.Transcript.{Gave, IsRun, Step, Told}
 use Rattle.sw_message.specs.declared.reply.Reply.TheVariants as reply
 use Rattle.sw_message.specs.declared.target.Target.{Target}
-use Rattle.sw_get.specs.Causes.{IsBook, IsPutFound, IsSource, ListsDurable}
-use Rattle.sw_get.specs.Get.{AreTurns, Begun, EndsAfter, IsBegun, IsEnd, IsFoundObject, IsNext, Turn, devices, facts_in, fetch_message, from_in, going_in}
+use Rattle.sw_get.specs.Causes.{HasTarget, IsBook, IsPutFound, IsSource, LastRound}
+use Rattle.sw_get.specs.Get.{AreTurns, Begun, EndsAfter, IsBegun, IsEnd, IsFoundObject, IsNext, Turn, facts_in, fetch_message, from_in, going_in}
 use Rattle.sw_get.specs.Round.{Facts, target_of}
 use Rattle.sw_get.specs.declared.end.GetEnd.TheVariants as gets
 use Rattle.sw_get.specs.declared.round_end.Going.{Going}
 use Rattle.sw_get.specs.declared.round_end.Going.TheVariants as going
 use Rattle.sw_get.specs.declared.round_end.RoundEnd.TheVariants as round
-use Rattle.sw_get.proofs.Counts.{within as answers_few}
-use Rattle.sw_get.proofs.Goings.{GoingSays, IsFound, going_says}
+use Rattle.sw_get.proofs.Goings.{IsFound, of_kind}
+use Rattle.sw_get.proofs.Kept.{all_answered, target_so}
 use Rattle.sw_get.proofs.Lists.{zip-weaker}
 use Rattle.sw_get.proofs.Members.{ascending-kept, with-kept}
-use Rattle.sw_get.proofs.Runs.{IsBrought, Keeps, all_kept}
+use Rattle.sw_get.proofs.Runs.{IsBrought, Keeps, all_kept, says}
 use Rattle.sw_get.proofs.Sameness.{turns_together}
-use Rattle.sw_get.proofs.Shown.{target_listed}
+use Rattle.sw_get.proofs.Shown.{target_shown}
 
 -- ---- targets in order
 
@@ -195,7 +197,7 @@ ends_found begun turns stamp object sources (going.Fetch other source) is = absu
 ends_found begun turns stamp object sources going.Wait is = absurd is
 
 module _ (begun : Begun) (valid : IsBegun begun) (past : List Step) (learnt : Learnt) (book : IsBook learnt.book) (known : AreKnown begun.cluster learnt past) (turns : List Turn)
-    (are : AreTurns begun past turns) (keeps : Keeps begun past turns) (stamp : ℕ) (found : IsFound begun.cluster.policy (from_in begun turns) (facts_in begun turns) stamp)
+    (are : AreTurns begun past turns) (keeps : Keeps begun past turns) (last : LastRound begun past) (same_turns : last.turns ≡ turns) (stamp : ℕ) (found : IsFound begun.cluster.policy (from_in begun turns) (facts_in begun turns) stamp)
     (object : ObjectModel) (is : IsFoundObject (facts_in begun turns) object) where
   abbrev facts : Facts
   facts = facts_in begun turns
@@ -243,6 +245,8 @@ module _ (begun : Begun) (valid : IsBegun begun) (past : List Step) (learnt : Le
       let same : object ≡ booked.object =
       let ok = object_of_put facts.archives (Ok object) is.1 enough together policy booked.stamp booked.name booked.object is_put told (λ refused. cc) in cc in
       let stamps : booked.stamp ≡ stamp = put.2 ∙ sym found.stamp_is in
+      let at_stamp : target_of (from_in begun turns) facts ≡ Some (durable_at stamp) =
+      found.chosen.target ∙ ap (λ (floor : Floor). Some floor) (of_kind to Durable found.chosen.durable) ∙ ap (λ n. Some (durable_at n)) (sym found.stamp_is) in
       let sent = zip-left Of (IsSource begun past to.stamp booked.object) (source_of begun past learnt known from facts to found.chosen.target book booked put.1 put.2) facts.sources facts.archives all in
       let distinct = sources_apart facts.sources facts.archives
       (zip-weaker Of (λ source archive. archive.index ≡ source.index) (λ source archive one. one.index) facts.sources facts.archives all) together.distinct in
@@ -250,7 +254,9 @@ module _ (begun : Begun) (valid : IsBegun begun) (past : List Step) (learnt : Le
         booked = subst (λ (one : Booked). Contains learnt.book one)
             (ap (λ n. record { stamp = n; name = booked.name; object = booked.object }) stamps ∙ ap (λ n. record { stamp = stamp; name = n; object = booked.object }) put.3
             ∙ ap (λ o. record { stamp = stamp; name = begun.name; object = o }) (sym same)) put.1;
-        durable = subst (ListsDurable past) (sym found.stamp_is) (target_listed begun past turns to are found.chosen.target found.chosen.durable);
+        last = last;
+        target = subst (λ these. HasTarget begun these (durable_at stamp)) (sym same_turns) (target_so begun turns (durable_at stamp) at_stamp);
+        durable = target_shown begun past turns (durable_at stamp) are at_stamp;
         count = length-ascending facts.sources ∙ found.enough;
         apart = ascending-apart Apart (λ a b apart same. apart (sym same)) facts.sources distinct;
         sent = ascending-kept (IsSource begun past stamp object) facts.sources
@@ -259,11 +265,10 @@ module _ (begun : Begun) (valid : IsBegun begun) (past : List Step) (learnt : Le
 
 pub found_put : (begun : Begun) (past : List Step) (learnt : Learnt) (stamp : ℕ) (object : ObjectModel) (sources : List Target) → IsBegun begun → IsRun (IsNext begun) past → IsBook learnt.book
     → AreKnown begun.cluster learnt past → IsEnd begun past (gets.Found stamp object sources) → IsPutFound begun past learnt stamp object sources
-found_put begun past learnt stamp object sources valid run book known end =
+found_put begun past learnt stamp object sources valid run book known_replies end =
     let turns = end.0 in
     let keeps = all_kept begun valid past run turns end.1 in
-    let few = answers_few (facts_in begun turns) (opens past) [] keeps.counted in
     let ends = ends_found begun turns stamp object sources (going_in begun turns) end.2 in
-    let says = subst (GoingSays begun.cluster.policy (devices begun) (from_in begun turns) (facts_in begun turns)) ends.goes
-    (going_says begun.cluster.policy (devices begun) (from_in begun turns) (facts_in begun turns) keeps.within.asked_few keeps.within.tried_few few.1) in
-    subst (IsPutFound begun past learnt stamp object) (sym ends.sources_are) (put_found begun valid past learnt book known turns end.1 keeps stamp says.2 object ends.is)
+    let known = says begun valid past turns keeps (going.End (round.Found stamp)) ends.goes in
+    let last : LastRound begun past = record { turns = turns; are = end.1; all_answered = all_answered begun valid past run turns end.1 known.0 known.1 } in
+    subst (IsPutFound begun past learnt stamp object) (sym ends.sources_are) (put_found begun valid past learnt book known_replies turns end.1 keeps last refl stamp known.2 object ends.is)

@@ -12,6 +12,7 @@ use Rattle.sw_message.specs.Transcript.{Gave, Hand, Over, Step, opens}
 use Rattle.sw_message.specs.declared.message.Msg.TheVariants as message
 use Rattle.sw_message.specs.declared.sent.Sent.{Sent}
 use Rattle.sw_message.specs.declared.target.Target.{Target}
+use Rattle.sw_quorum.specs.Places.{place_right}
 use Rattle.sw_get.specs.Get.{Begun, IsNext, ask_first, ask_message, devices, events, fetch_message, most_kept, place_of, sends}
 use Rattle.sw_get.specs.Mailbox.{GoesWith, MailboxModel}
 use Rattle.sw_get.specs.Round.{Facts, all_devices, no_facts}
@@ -22,7 +23,7 @@ use Rattle.sw_get.specs.declared.round_end.KeptEvent.{KeptEvent}
 use Rattle.sw_get.proofs.Changes.{closes, counted_all, few, is_next, same_going, says, stands_gave, ticket_is}
 use Rattle.sw_get.proofs.Counts.{counted-ask, counted-fetch}
 use Rattle.sw_get.proofs.Findings.{finds-ask, finds-fetch, finds-kept}
-use Rattle.sw_get.proofs.Members.{asked_known, devices_few, place_right, source_known}
+use Rattle.sw_get.proofs.Members.{asked_known, devices_few, source_known}
 use Rattle.sw_get.proofs.Readings.{with_read}
 
 module _ (get : GetModel) (begun : Begun) (past : List Step) (stands : Stands get begun past) (ready : IsReady get) (ticket : ℕ) (ticket_made : ticket ≡ length get.mailbox.tickets) where
@@ -45,7 +46,7 @@ module _ (get : GetModel) (begun : Begun) (past : List Step) (stands : Stands ge
     next_ask = is_next get begun past stands ready (Hand (ask_message begun ticket device)) (going.Ask device) goes (ap (λ n. Hand (ask_message begun n device)) number)
 
     may_ask_so : MayHand begun past (ask_message begun ticket device)
-    may_ask_so = record { next = next_ask; of = record { member = member; place = place_right begun }; warranted = λ learnt. tt }
+    may_ask_so = record { next = next_ask; of = record { member = member; place = place_right begun.cluster begun.name }; warranted = λ learnt. tt }
 
     pub may_ask : MayHand begun past (record { ticket = ticket; device = device; msg = message.Ask get.subject.place })
     may_ask = subst (λ (place : PlaceModel). MayHand begun past (record { ticket = ticket; device = device; msg = message.Ask place })) (sym place_is) may_ask_so
@@ -81,7 +82,7 @@ module _ (get : GetModel) (begun : Begun) (past : List Step) (stands : Stands ge
     next_fetch = is_next get begun past stands ready (Hand (fetch_message begun ticket stamp source)) (going.Fetch stamp source) goes (ap (λ n. Hand (fetch_message begun n stamp source)) number)
 
     may_fetch_so : MayHand begun past (fetch_message begun ticket stamp source)
-    may_fetch_so = record { next = next_fetch; of = record { member = source_member; place = place_right begun }; warranted = λ learnt. tt }
+    may_fetch_so = record { next = next_fetch; of = record { member = source_member; place = place_right begun.cluster begun.name }; warranted = λ learnt. tt }
 
     pub may_fetch : MayHand begun past (record { ticket = ticket; device = source.device; msg = message.Fetch get.subject.place stamp source.index })
     may_fetch = subst (λ (place : PlaceModel). MayHand begun past (record { ticket = ticket; device = source.device; msg = message.Fetch place stamp source.index })) (sym place_is) may_fetch_so
@@ -120,7 +121,7 @@ module _ (get : GetModel) (begun : Begun) (past : List Step) (stands : Stands ge
         ∙ ap (ask_first begun (sends stands.turns)) first_is ∙ ap (λ n. Hand (ask_message begun n device)) number)
 
     may_first_so : MayHand begun past (ask_message begun ticket device)
-    may_first_so = record { next = next_first; of = record { member = first_member; place = place_right begun }; warranted = λ learnt. tt }
+    may_first_so = record { next = next_first; of = record { member = first_member; place = place_right begun.cluster begun.name }; warranted = λ learnt. tt }
 
     pub may_first : MayHand begun past (record { ticket = ticket; device = device; msg = message.Ask get.subject.place })
     may_first = subst (λ (place : PlaceModel). MayHand begun past (record { ticket = ticket; device = device; msg = message.Ask place })) (sym place_is) may_first_so

@@ -3,58 +3,20 @@ use Rattle.std.proofs.Common.{◌≡◌, ◌≢◌, inl, inr, ◌⊎◌, ℕ, ze
 use Rattle.std.specs.Prelude.{◌↔◌, if◌then◌else◌}
 use Rattle.std.specs.List.{All, AllPairs, filter, flat_map}
 use Rattle.std.proofs.lemmas.Bool.{and_parts, cases_eq, cond-true, eq-eqb, eqb-true, lt-ltb, ltb-true, ne_eqb}
-use Rattle.std.proofs.lemmas.List.Elements.{All-contains_itself, All-map, All-weaker, Contains-append_left, Contains-append_right, filter_passes}
+use Rattle.std.proofs.lemmas.List.Elements.{All-contains_itself, All-map, All-weaker, filter_passes}
 use Rattle.std.proofs.lemmas.List.Kept.{AllPairs-cons, AllPairs-filter}
+use Rattle.sw_types.specs.Policy.{PolicyModel}
 use Rattle.sw_hashdir.specs.Listing.{ListingModel}
 use Rattle.sw_hashdir.specs.declared.entry.Entry.{Entry}
 use Rattle.sw_ring.proofs.Among.{Contains-cons}
 use Rattle.sw_message.specs.Targets.{ascending, is_before, with_target}
 use Rattle.sw_message.specs.declared.target.Target.{Target}
-use Rattle.sw_get.specs.Causes.{ListsAt}
-use Rattle.sw_get.specs.Get.{Begun}
+use Rattle.sw_get.specs.Causes.{AreIndices, ListsAt}
 use Rattle.sw_get.specs.Round.{Facts, candidates, entry_target, firsts, has_index, is_listed, listed_at}
-use Rattle.sw_get.proofs.Lists.{All-contains}
+use Rattle.sw_get.proofs.Lists.{All-contains, first_or_later, here, in_filter, in_flat, in_map, none_in}
 use Rattle.sw_get.proofs.Members.{OfEntries, candidates-of, firsts-kept}
 
--- ---- what a list contains
-
-module _ {A : Type 0} where
-  here : (x : A) (xs : List A) → Contains (x ∷ xs) x
-  here x xs = (zero, omega arith, refl)
-
-  first_or_later : (y : A) (xs : List A) (x : A) → Contains (y ∷ xs) x → (y ≡ x) ⊎ Contains xs x
-  first_or_later y xs x (zero, below, is) = inl is
-  first_or_later y xs x (suc k, below, is) = inr (k, omega (arith, below), is)
-
-none_in : {A : Type 0} (x : A) → Contains [] x → ⊥
-none_in x is = absurd (omega (arith, is.1))
-
-module _ {A : Type 0} (p : A → Bool) where
-  in_filter : (xs : List A) (x : A) → Contains xs x → p x ≡ true → Contains (filter p xs) x
-  in_filter [] x is passes = absurd (none_in x is)
-  in_filter (y ∷ xs) x is passes = elim (first_or_later y xs x is) [
-    | inl same ↦ subst (λ these. Contains these x) (sym (cond-true (p y) (y ∷ filter p xs) (filter p xs) (ap p same ∙ passes))) (subst (λ z. Contains (z ∷ filter p xs) x) (sym same) (here x (filter p xs)))
-    | inr later ↦ by_test (p y) (in_filter xs x later passes)
-  ]
-    where
-      by_test : (b : Bool) → Contains (filter p xs) x → Contains (if b then y ∷ filter p xs else filter p xs) x
-      by_test true is = Contains-cons x y (filter p xs) is
-      by_test false is = is
-
-module _ {A B : Type 0} where
-  in_map : (f : A → B) (xs : List A) (x : A) → Contains xs x → Contains (map f xs) (f x)
-  in_map f [] x is = absurd (none_in x is)
-  in_map f (y ∷ xs) x is = elim (first_or_later y xs x is) [
-    | inl same ↦ subst (λ z. Contains (f z ∷ map f xs) (f x)) (sym same) (here (f x) (map f xs))
-    | inr later ↦ Contains-cons (f x) (f y) (map f xs) (in_map f xs x later)
-  ]
-
-  in_flat : (f : A → List B) (xs : List A) (x : A) (y : B) → Contains xs x → Contains (f x) y → Contains (flat_map f xs) y
-  in_flat f [] x y is among = absurd (none_in x is)
-  in_flat f (z ∷ xs) x y is among = elim (first_or_later z xs x is) [
-    | inl same ↦ Contains-append_left (f z) (flat_map f xs) y (subst (λ w. Contains (f w) y) (sym same) among)
-    | inr later ↦ Contains-append_right (f z) (flat_map f xs) y (in_flat f xs x y later among)
-  ]
+-- ---- targets in order
 
 in_with : (target : Target) (others : List Target) (x : Target) → (target ≡ x) ⊎ Contains others x → Contains (with_target target others) x
 in_with target [] x (inl same) = subst (λ (z : Target). Contains (z ∷ []) x) (sym same) (here x [])
@@ -97,7 +59,7 @@ firsts_apart (target ∷ targets) =
     (λ i d below. other_index target.index (get_or left i d) (filter_passes (others_than target.index) (firsts targets) i d below))
     (AllPairs-filter (λ (a b : Target). a.index ≢ b.index) (others_than target.index) (firsts targets) (firsts_apart targets))
 
-pub indices_apart : (targets : List Target) → AllPairs (λ (a b : Target). a.index ≢ b.index) targets → AllPairs (λ (one other : ℕ). one ≢ other) (indices_of targets)
+indices_apart : (targets : List Target) → AllPairs (λ (a b : Target). a.index ≢ b.index) targets → AllPairs (λ (one other : ℕ). one ≢ other) (indices_of targets)
 indices_apart [] pairs = λ i j d less within. absurd (omega arith)
 indices_apart (target ∷ targets) pairs =
     AllPairs-cons (λ (one other : ℕ). one ≢ other) target.index (indices_of targets)
@@ -134,47 +96,55 @@ in_firsts (target ∷ targets) x is =
 
 -- ---- what a round lists at a stamp
 
-module _ (begun : Begun) (facts : Facts) (stamp : ℕ) where
+module _ (policy : PolicyModel) (facts : Facts) (stamp : ℕ) where
   abbrev total : ℕ
-  total = begun.cluster.policy.k + begun.cluster.policy.m
+  total = policy.k + policy.m
 
   abbrev choices : List Target
-  choices = candidates begun.cluster.policy stamp facts
+  choices = candidates policy stamp facts
 
   abbrev pub first_indices : List ℕ
   first_indices = indices_of (firsts choices)
 
-  abbrev At : ℕ → Type 0
-  At index = ListsAt begun facts stamp index
+  abbrev At : Target → Type 0
+  At target = ListsAt policy facts.lists stamp target
 
-  listed_entry : (one : ℕ × ListingModel) → Contains facts.lists one → (entry : Entry) → Contains one.1.entries entry → is_listed total stamp entry ≡ true → At entry.index
+  abbrev SomeAt : ℕ → Type 0
+  SomeAt index = (device : ℕ) × At (record { index = index; device = device })
+
+  listed_entry : (one : ℕ × ListingModel) → Contains facts.lists one → (entry : Entry) → Contains one.1.entries entry → is_listed total stamp entry ≡ true → At (record { index = entry.index; device = one.0 })
   listed_entry one held entry among listed =
-      let both = and_parts (entry.stamp == stamp) (nat_lt entry.index total) listed in (
-        ltb-true entry.index total both.1,
-        one,
-        held,
-        entry.durable,
-        subst (Contains one.1.entries) (ap (λ n. record { stamp = n; index = entry.index; durable = entry.durable }) (eqb-true entry.stamp stamp both.0)) among,
-      )
+      let both = and_parts (entry.stamp == stamp) (nat_lt entry.index total) listed in record {
+        below = ltb-true entry.index total both.1;
+        listing = one.1;
+        listed = held;
+        durable = entry.durable;
+        entry = subst (Contains one.1.entries) (ap (λ n. record { stamp = n; index = entry.index; durable = entry.durable }) (eqb-true entry.stamp stamp both.0)) among;
+      }
 
-  all_at : All (λ (target : Target). At target.index) choices
-  all_at = candidates-of (λ (target : Target). At target.index) begun.cluster.policy stamp facts
-      (All-weaker (Contains facts.lists) (OfEntries (λ (target : Target). At target.index) total stamp) (λ one held entry among listed. listed_entry one held entry among listed) facts.lists
-      (All-contains_itself facts.lists))
+  -- each candidate is listed by its device
+  pub all_listed : All At choices
+  all_listed = candidates-of At policy stamp facts
+      (All-weaker (Contains facts.lists) (OfEntries At total stamp) (λ one held entry among listed. listed_entry one held entry among listed) facts.lists (All-contains_itself facts.lists))
 
-  some_at : (index : ℕ) → At index → Contains first_indices index
-  some_at index is =
-      let entry : Entry = record { stamp = stamp; index = index; durable = is.3 } in
-      let target : Target = record { index = index; device = is.1.0 } in
-      let listed : is_listed total stamp entry ≡ true = ap (λ b. b && nat_lt index total) (eq-eqb stamp stamp refl) ∙ lt-ltb index total is.0 in
-      let among = in_map (entry_target is.1.0) (filter (is_listed total stamp) is.1.1.entries) entry (in_filter (is_listed total stamp) is.1.1.entries entry is.4 listed) in
-      in_firsts choices target (in_ascending (flat_map (listed_at total stamp) facts.lists) target (in_flat (listed_at total stamp) facts.lists is.1 target is.2 among))
+  -- and what is listed is a candidate
+  pub in_candidates : (target : Target) → At target → Contains choices target
+  in_candidates target is =
+      let entry : Entry = record { stamp = stamp; index = target.index; durable = is.durable } in
+      let one : ℕ × ListingModel = (target.device, is.listing) in
+      let listed : is_listed total stamp entry ≡ true = ap (λ b. b && nat_lt target.index total) (eq-eqb stamp stamp refl) ∙ lt-ltb target.index total is.below in
+      let among = in_map (entry_target target.device) (filter (is_listed total stamp) is.listing.entries) entry (in_filter (is_listed total stamp) is.listing.entries entry is.entry listed) in
+      in_ascending (flat_map (listed_at total stamp) facts.lists) target (in_flat (listed_at total stamp) facts.lists one target is.listed among)
 
-  pub listed_indices : (index : ℕ) → Contains first_indices index ↔ At index
+  some_at : (index : ℕ) → SomeAt index → Contains first_indices index
+  some_at index (device, is) = let target : Target = record { index = index; device = device } in in_firsts choices target (in_candidates target is)
+
+  listed_indices : (index : ℕ) → Contains first_indices index ↔ SomeAt index
   listed_indices index = (
-    All-contains At first_indices index (All-map At (λ (target : Target). target.index) (firsts choices) (firsts-kept (λ (target : Target). At target.index) choices all_at)),
+    All-contains SomeAt first_indices index
+        (All-map SomeAt (λ (target : Target). target.index) (firsts choices) (All-weaker At (λ (target : Target). SomeAt target.index) (λ target is. (target.device, is)) (firsts choices) (firsts-kept At choices all_listed))),
     some_at index,
   )
 
-  pub first_apart : AllPairs (λ (one other : ℕ). one ≢ other) first_indices
-  first_apart = indices_apart (firsts choices) (firsts_apart choices)
+  pub are_indices : AreIndices policy facts.lists stamp first_indices
+  are_indices = record { apart = indices_apart (firsts choices) (firsts_apart choices); listed = listed_indices }

@@ -9,13 +9,16 @@ pub mod Goings
 pub mod Handings
 pub mod Indices
 pub mod Joins
+pub mod Kept
 pub mod Lists
 pub mod Mailboxes
 pub mod Meanings
 pub mod Members
+pub mod Missed
 pub mod Readings
 pub mod Replies
 pub mod Results
+pub mod Rounds
 pub mod Runs
 pub mod Sameness
 pub mod Shown

@@ -1,25 +1,18 @@
 -- The devices that a get asks, and those from which it fetches, are of its cluster.
-use Rattle.std.proofs.Common.{Contains, get_or, ◌≡◌, ℕ, ◌+◌, ◌^◌, ◌<◌, ◌≤◌, Bool, true, false, not, List, [], ◌∷◌, length, nat_lt, Some, refl, subst, arith}
+use Rattle.std.proofs.Common.{Contains, get_or, ◌≡◌, ℕ, ◌+◌, ◌<◌, ◌≤◌, Bool, true, false, not, List, [], ◌∷◌, length, nat_lt, Some, subst, arith}
 use Rattle.std.specs.Prelude.{if◌then◌else◌, slice_index}
 use Rattle.std.specs.List.{All, filter, find, flat_map, slice_get}
 use Rattle.std.proofs.lemmas.List.{length-append, length-map}
 use Rattle.std.proofs.lemmas.List.Elements.{All-append, All-cons, All-contains_itself, All-filter, All-get_or, All-head, All-map, All-nil, All-tail, All-weaker, filter_passes}
-use Rattle.std.proofs.lemmas.List.Filters.{length-filter_both}
 use Rattle.std.proofs.lemmas.Option.{get_or_from_slice_get, none-some, same_Some, slice_get_within}
 use Rattle.sw_types.specs.Policy.{PolicyModel}
 use Rattle.sw_types.proofs.Policies.{bounds}
 use Rattle.sw_hashdir.specs.Listing.{ListingModel}
 use Rattle.sw_hashdir.specs.declared.entry.Entry.{Entry}
-use Rattle.sw_hashpath.specs.Laws.{part_below}
-use Rattle.sw_hashpath.specs.Place.{IsPlace, hash_of}
-use Rattle.sw_hashpath.proofs.Digests.{IsHash-md5}
-use Rattle.sw_ring.specs.Cluster.{column_of, ids_of}
-use Rattle.sw_ring.specs.Ring.{is_among}
-use Rattle.sw_ring.specs.declared.device.Device.{Device}
-use Rattle.sw_ring.proofs.Among.{among-from_Contains}
 use Rattle.sw_message.specs.Message.{IsMember}
 use Rattle.sw_message.specs.Targets.{ascending, is_before, with_target}
 use Rattle.sw_message.specs.declared.target.Target.{Target}
+use Rattle.sw_quorum.specs.Places.{handoffs_few, handoffs_known, part_small, primaries_few}
 use Rattle.sw_get.specs.Get.{Begun, IsBegun, devices, place_of}
 use Rattle.sw_get.specs.Round.{Facts, all_devices, candidates, entry_target, firsts, has_index, is_free, is_listed, listed_at, next_source}
 
@@ -87,20 +80,9 @@ module _ (Q : Target → Type 0) where
 -- ---- the devices of the place
 
 module _ (begun : Begun) where
-  pub place_right : IsPlace begun.cluster.part_power (place_of begun)
-  place_right = record { hash = IsHash-md5 _; part = refl }
-
-  part_small : (place_of begun).part < 2 ^ begun.cluster.part_power
-  part_small = part_below (hash_of begun.name begun.cluster.prefix begun.cluster.suffix) begun.cluster.part_power (IsHash-md5 _)
-
-  handoffs_known : All (IsMember begun.cluster) (devices begun).handoffs
-  handoffs_known =
-      let ids = ids_of begun.cluster in
-      All-filter (λ id. not (is_among (column_of begun.cluster (place_of begun).part) id)) (IsMember begun.cluster) ids
-      (All-weaker _ (IsMember begun.cluster) (among-from_Contains ids) ids (All-contains_itself ids))
-
   devices_known : IsBegun begun → All (IsMember begun.cluster) (all_devices (devices begun))
-  devices_known valid = All-append (IsMember begun.cluster) (devices begun).handoffs (devices begun).primaries handoffs_known (valid.rules.known (place_of begun).part part_small)
+  devices_known valid = All-append (IsMember begun.cluster) (devices begun).handoffs (devices begun).primaries (handoffs_known begun.cluster (place_of begun).part)
+      (valid.rules.known (place_of begun).part (part_small begun.cluster begun.name))
 
   -- there are some primaries, and few devices
   pub primaries_some : IsBegun begun → 0 < length (devices begun).primaries
@@ -109,17 +91,8 @@ module _ (begun : Begun) where
 
   pub devices_few : IsBegun begun → length (all_devices (devices begun)) ≤ 96
   devices_few valid =
-      let is_primary = is_among (column_of begun.cluster (place_of begun).part) in
-      omega (
-        arith,
-        length-append (devices begun).handoffs (devices begun).primaries,
-        length-map begun.cluster.rows (λ (row : List ℕ). slice_index row (place_of begun).part),
-        valid.rules.rows,
-        (bounds begun.cluster.policy valid.rules.policy).total,
-        length-filter_both (λ (id : ℕ). not (is_primary id)) (λ (id : ℕ). not (not (is_primary id))) (λ id. refl) (ids_of begun.cluster),
-        length-map begun.cluster.devices (λ (device : Device). device.id),
-        valid.rules.few,
-      )
+      let part = (place_of begun).part in
+      omega (arith, length-append (devices begun).handoffs (devices begun).primaries, handoffs_few begun.cluster part valid.rules, primaries_few begun.cluster part valid.rules)
 
   pub asked_known : IsBegun begun → (number device : ℕ) → slice_get (all_devices (devices begun)) number ≡ Some device → IsMember begun.cluster device
   asked_known valid number device is =

@@ -7,6 +7,7 @@ use Rattle.std.proofs.lemmas.Grind.{flat_map-append}
 use Rattle.std.proofs.lemmas.List.{nil_from_length}
 use Rattle.std.proofs.lemmas.List.Elements.{All-cons, All-filter, All-nil, All-push, All-weaker}
 use Rattle.std.proofs.lemmas.Option.{slice_get_within}
+use Rattle.sw_types.specs.Policy.{PolicyModel}
 use Rattle.sw_hashdir.specs.Listing.{ListingModel}
 use Rattle.sw_hashdir.specs.declared.floor.Floor.{Floor}
 use Rattle.sw_archive.specs.Archive.{ArchiveModel}
@@ -21,53 +22,44 @@ use Rattle.sw_message.specs.declared.reply.Reply.TheVariants as reply
 use Rattle.sw_message.specs.declared.sent.Sent.{Sent}
 use Rattle.sw_message.specs.declared.target.Target.{Target}
 use Rattle.sw_quorum.specs.Transcripts.{HasOther, found, numbered}
-use Rattle.sw_get.specs.Causes.{IsHeld, IsKept, ListsIndex}
+use Rattle.sw_get.specs.Causes.{ListsAt}
 use Rattle.sw_get.specs.Get.{AreTurns, Begun, Hears, IsBegun, IsMeant, IsNext, Sends, Turn, ask_first, ask_message, devices, event_of, events, facts_in, fetch_message, floors_shown, from_in, going_in, most_kept, next_after, round_in, sends, shown_by, wanted}
 use Rattle.sw_get.specs.Meaning.{Brings, IsFetched, IsWanted, Lacks, Lists, Meaning, Misses, asked_meaning, with_asked, with_fetched}
-use Rattle.sw_get.specs.Round.{Facts, all_devices, candidates, lost, no_facts, rises, target_of}
+use Rattle.sw_get.specs.Round.{Facts, all_devices, candidates, lost, no_facts, target_of}
 use Rattle.sw_get.specs.Standing.{AreCounted, IsErrand, IsWithin, count_fetch, count_opens}
 use Rattle.sw_get.specs.declared.errand.Errand.{Errand}
 use Rattle.sw_get.specs.declared.errand.Errand.TheVariants.{Ask, Fetch}
 use Rattle.sw_get.specs.declared.round_end.Going.{Going}
 use Rattle.sw_get.specs.declared.round_end.Going.TheVariants as going
 use Rattle.sw_get.specs.declared.round_end.KeptEvent.{KeptEvent}
-use Rattle.sw_get.specs.declared.round_end.KeptEvent.TheVariants as kept_as
 use Rattle.sw_get.proofs.Changes.{none_open}
 use Rattle.sw_get.proofs.Counts.{counted-answered, counted-ask, counted-fetch, counted-fetched, counted-taken, one_asked, within as answers_few}
 use Rattle.sw_get.proofs.Findings.{within-answered, within-ask, within-fetch, within-fetched, within-first}
-use Rattle.sw_get.proofs.Goings.{GoingSays, KeepSays, going_says}
-use Rattle.sw_get.proofs.Lists.{All-contains, zip-none, zip-push, zip-weaker}
+use Rattle.sw_get.proofs.Goings.{GoingSays, going_says}
+use Rattle.sw_get.proofs.Indices.{all_listed}
+use Rattle.sw_get.proofs.Lists.{zip-none, zip-push, zip-weaker}
 use Rattle.sw_get.proofs.Meanings.{AskedCases, asked_cases, never_lists}
-use Rattle.sw_get.proofs.Members.{OfEntries, asked_known, candidates-of, source-kept, source_known}
+use Rattle.sw_get.proofs.Members.{asked_known, source-kept, source_known}
 use Rattle.sw_get.proofs.Sameness.{fragment_of, one_turns}
-use Rattle.sw_get.proofs.Shown.{held_of}
+use Rattle.sw_get.proofs.Shown.{gone_of}
 use Rattle.sw_get.proofs.Turns.{ask_goes_on, begins, facts-answered, facts-asked, facts-brought, facts-fetched, fetch_goes_on, sends-given, target-heard}
 
 -- ---- what is kept
 
--- archives are fetched at the stamp of the round's target
-abbrev AtTarget : Option Floor → Facts → Errand → Type 0
-AtTarget from facts (Ask device) = Unit {0}
-AtTarget from facts (Fetch stamp source) = (to : Floor) × (target_of from facts ≡ Some to) × (stamp ≡ to.stamp)
+-- a source whose archive was gone: it is listed at the stamp of the round's target, and it said so of that
+abbrev pub IsGoneOf : Begun → List Step → Option Floor → Facts → Target → Type 0
+IsGoneOf begun past from facts source = (to : Floor) × (target_of from facts ≡ Some to) × ListsAt begun.cluster.policy facts.lists to.stamp source
+    × (ticket : ℕ) × (listing : ListingModel) × Contains past (Told (fetch_message begun ticket to.stamp source) (Some (reply.Gone listing)))
 
--- an archive is fetched from a device that listed it
-abbrev IsSourced : Begun → List Step → Errand → Type 0
-IsSourced begun past (Ask device) = Unit {0}
-IsSourced begun past (Fetch stamp source) = ListsIndex begun past source.device source.index
+-- archives are fetched at that stamp, from a source that is listed
+abbrev AtTarget : PolicyModel → Option Floor → Facts → Errand → Type 0
+AtTarget policy from facts (Ask device) = Unit {0}
+AtTarget policy from facts (Fetch stamp source) = (to : Floor) × (target_of from facts ≡ Some to) × (stamp ≡ to.stamp) × ListsAt policy facts.lists to.stamp source
 
-record IsOpenOf (begun : Begun) (past : List Step) (from : Option Floor) (facts : Facts) (sent : Sent) : Type 0 where
+record IsOpenOf (begun : Begun) (from : Option Floor) (facts : Facts) (sent : Sent) : Type 0 where
   errand : Errand
   is : IsErrand begun errand sent
-  at : AtTarget from facts errand
-  sourced : IsSourced begun past errand
-
--- a listing of the round
-abbrev IsToldOf : Begun → List Step → ℕ × ListingModel → Type 0
-IsToldOf begun past one = IsHeld begun past one.0 one.1
-
--- a source
-abbrev IsListedOf : Begun → List Step → Target → Type 0
-IsListedOf begun past source = ListsIndex begun past source.device source.index
+  at : AtTarget begun.cluster.policy from facts errand
 
 -- a source sent an archive, at the stamp of the target
 pub record IsBrought (begun : Begun) (past : List Step) (from : Option Floor) (facts : Facts) (source : Target) (archive : ArchiveModel) : Type 0 where
@@ -78,48 +70,40 @@ pub record IsBrought (begun : Begun) (past : List Step) (from : Option Floor) (f
   pub told : Contains past (Told (fetch_message begun ticket to.stamp source) (Some (reply.Fragment bytes)))
   pub wanted : IsWanted (wanted begun to.stamp) source.index bytes archive
 
--- of a transcript, by what its round knows, the floors that were shown, and the events before
-pub record KeepsFacts (begun : Begun) (past : List Step) (from : Option Floor) (facts : Facts) (shown : List Floor) (kept : List KeptEvent) : Type 0 where
+-- of a transcript, by what its round knows, the floors that were shown, and the count of events before
+pub record KeepsFacts (begun : Begun) (past : List Step) (from : Option Floor) (facts : Facts) (shown : List Floor) (kept : ℕ) : Type 0 where
   pub counted : AreCounted facts [] (opens past)
   pub within : IsWithin begun from facts
-  opened : All (IsOpenOf begun past from facts) (opens past)
+  opened : All (IsOpenOf begun from facts) (opens past)
   pub brought : AllZip (IsBrought begun past from facts) facts.sources facts.archives
-  -- what devices list, and the sources that lacked what they listed
-  lists_told : All (IsToldOf begun past) facts.lists
-  pub gone_listed : All (IsListedOf begun past) facts.gone
+  pub gone_told : All (IsGoneOf begun past from facts) facts.gone
   -- until archives are fetched, the target is the greatest floor that was shown
   pub level : length facts.tried ≡ 0 → highest shown ≡ target_of from facts
-  pub events_kept : All (IsKept begun past) kept
-  pub events_few : length kept ≤ most_kept
+  pub events_few : kept ≤ most_kept
 
 abbrev pub Keeps : Begun → List Step → List Turn → Type 0
-Keeps begun past turns = KeepsFacts begun past (from_in begun turns) (facts_in begun turns) (floors_shown turns) (events begun turns)
+Keeps begun past turns = KeepsFacts begun past (from_in begun turns) (facts_in begun turns) (floors_shown turns) (length (events begun turns))
 
 -- ---- what stays
 
-same_at : (from : Option Floor) (a b : Facts) → target_of from a ≡ target_of from b → (errand : Errand) → AtTarget from a errand → AtTarget from b errand
-same_at from a b same (Ask device) at = tt
-same_at from a b same (Fetch stamp source) at = (at.0, sym same ∙ at.1, at.2)
+module _ (policy : PolicyModel) (from : Option Floor) (a b : Facts) (target : target_of from a ≡ target_of from b) (lists : a.lists ≡ b.lists) where
+  same_at : (errand : Errand) → AtTarget policy from a errand → AtTarget policy from b errand
+  same_at (Ask device) at = tt
+  same_at (Fetch stamp source) at = (at.0, sym target ∙ at.1, at.2, subst (λ these. ListsAt policy these at.0.stamp source) lists at.3)
 
-held_more : (begun : Begun) (past : List Step) (step : Step) (device : ℕ) (listing : ListingModel) → IsHeld begun past device listing → IsHeld begun (step ∷ past) device listing
-held_more begun past step device listing is = record { ticket = is.ticket; told = Contains-cons (Told (ask_message begun is.ticket device) (Some (reply.Held listing))) step past is.told }
+same_gone : (begun : Begun) (past : List Step) (step : Step) (from : Option Floor) (a b : Facts) → target_of from a ≡ target_of from b → a.lists ≡ b.lists → (source : Target) → IsGoneOf begun past from a source
+    → IsGoneOf begun (step ∷ past) from b source
+same_gone begun past step from a b target lists source is = (
+  is.0,
+  sym target ∙ is.1,
+  subst (λ these. ListsAt begun.cluster.policy these is.0.stamp source) lists is.2,
+  is.3,
+  is.4,
+  Contains-cons (Told (fetch_message begun is.3 is.0.stamp source) (Some (reply.Gone is.4))) step past is.5,
+)
 
-index_more : (begun : Begun) (past : List Step) (step : Step) (device index : ℕ) → ListsIndex begun past device index → ListsIndex begun (step ∷ past) device index
-index_more begun past step device index is =
-    record { listing = is.listing; held = held_more begun past step device is.listing is.held; entry = is.entry; among = is.among; index_is = is.index_is }
-
-sourced_more : (begun : Begun) (past : List Step) (step : Step) (errand : Errand) → IsSourced begun past errand → IsSourced begun (step ∷ past) errand
-sourced_more begun past step (Ask device) is = tt
-sourced_more begun past step (Fetch stamp source) is = index_more begun past step source.device source.index is
-
-kept_more : (begun : Begun) (past : List Step) (step : Step) (event : KeptEvent) → IsKept begun past event → IsKept begun (step ∷ past) event
-kept_more begun past step (kept_as.Gone device index) is = index_more begun past step device index is
-kept_more begun past step (kept_as.Rose None to) is = tt
-kept_more begun past step (kept_as.Rose (Some from) to) is = is
-
-same_open : (begun : Begun) (past : List Step) (step : Step) (from : Option Floor) (a b : Facts) → target_of from a ≡ target_of from b → (sent : Sent) → IsOpenOf begun past from a sent → IsOpenOf begun (step ∷ past) from b sent
-same_open begun past step from a b same sent is =
-    record { errand = is.errand; is = is.is; at = same_at from a b same is.errand is.at; sourced = sourced_more begun past step is.errand is.sourced }
+same_open : (begun : Begun) (from : Option Floor) (a b : Facts) → target_of from a ≡ target_of from b → a.lists ≡ b.lists → (sent : Sent) → IsOpenOf begun from a sent → IsOpenOf begun from b sent
+same_open begun from a b target lists sent is = record { errand = is.errand; is = is.is; at = same_at begun.cluster.policy from a b target lists is.errand is.at }
 
 same_brought : (begun : Begun) (past : List Step) (step : Step) (from : Option Floor) (a b : Facts) → target_of from a ≡ target_of from b → (source : Target) (archive : ArchiveModel)
     → IsBrought begun past from a source archive → IsBrought begun (step ∷ past) from b source archive
@@ -138,24 +122,12 @@ none_counted count (sent ∷ sents) none =
     All-cons (λ (sent : Sent). count sent.msg ≡ 0) sent sents (omega (arith, none)) (none_counted count sents (omega (arith, none)))
 
 -- an open message that is no fetch
-asks_only : (begun : Begun) (past : List Step) (step : Step) (from : Option Floor) (a b : Facts) (sent : Sent) → count_fetch sent.msg ≡ 0 → IsOpenOf begun past from a sent → IsOpenOf begun (step ∷ past) from b sent
-asks_only begun past step from a b sent none known =
-    record { errand = known.errand; is = known.is; at = at known.errand known.is; sourced = sourced_more begun past step known.errand known.sourced }
+asks_only : (begun : Begun) (from : Option Floor) (a b : Facts) (sent : Sent) → count_fetch sent.msg ≡ 0 → IsOpenOf begun from a sent → IsOpenOf begun from b sent
+asks_only begun from a b sent none known = record { errand = known.errand; is = known.is; at = at known.errand known.is }
   where
-    at : (errand : Errand) → IsErrand begun errand sent → AtTarget from b errand
+    at : (errand : Errand) → IsErrand begun errand sent → AtTarget begun.cluster.policy from b errand
     at (Ask device) is = tt
     at (Fetch stamp source) is = let one : count_fetch sent.msg ≡ 1 = ap (λ (one : Sent). count_fetch one.msg) is.message in absurd (omega (arith, none, one))
-
--- what stays as one step more is taken
-module _ (begun : Begun) (past : List Step) (step : Step) where
-  lists_stay : (lists : List (ℕ × ListingModel)) → All (IsToldOf begun past) lists → All (IsToldOf begun (step ∷ past)) lists
-  lists_stay lists all = All-weaker (IsToldOf begun past) (IsToldOf begun (step ∷ past)) (λ one is. held_more begun past step one.0 one.1 is) lists all
-
-  sources_stay : (sources : List Target) → All (IsListedOf begun past) sources → All (IsListedOf begun (step ∷ past)) sources
-  sources_stay sources all = All-weaker (IsListedOf begun past) (IsListedOf begun (step ∷ past)) (λ one is. index_more begun past step one.device one.index is) sources all
-
-  events_stay : (kept : List KeptEvent) → All (IsKept begun past) kept → All (IsKept begun (step ∷ past)) kept
-  events_stay kept all = All-weaker (IsKept begun past) (IsKept begun (step ∷ past)) (kept_more begun past step) kept all
 
 -- ---- a message was handed out
 
@@ -169,17 +141,18 @@ module _ (begun : Begun) (valid : IsBegun begun) (past : List Step) (turns : Lis
   few : (facts.answered ≤ facts.asked) × (length facts.sources + lost facts ≤ length facts.tried)
   few = answers_few facts (opens past) [] keeps.counted
 
-  says : (going : Going) → going_in begun turns ≡ going → GoingSays begun.cluster.policy (devices begun) from facts going
+  -- what its round knows, by what it does next
+  pub says : (going : Going) → going_in begun turns ≡ going → GoingSays begun.cluster.policy (devices begun) from facts going
   says going is = subst (GoingSays begun.cluster.policy (devices begun) from facts) is
       (going_says begun.cluster.policy (devices begun) from facts keeps.within.asked_few keeps.within.tried_few few.1)
 
   -- the same, by other words for what is known
   by_facts : (path : List Step) (more : List Turn) (start : Option Floor) (known : Facts) (kept : List KeptEvent) → from_in begun more ≡ start → facts_in begun more ≡ known → events begun more ≡ kept
-      → KeepsFacts begun path start known (floors_shown more) kept → Keeps begun path more
+      → KeepsFacts begun path start known (floors_shown more) (length kept) → Keeps begun path more
   by_facts path more start known kept from_is facts_are events_are keeps =
-      subst (λ one. KeepsFacts begun path one (facts_in begun more) (floors_shown more) (events begun more)) (sym from_is)
-      (subst (λ these. KeepsFacts begun path start these (floors_shown more) (events begun more)) (sym facts_are)
-      (subst (KeepsFacts begun path start known (floors_shown more)) (sym events_are) keeps))
+      subst (λ one. KeepsFacts begun path one (facts_in begun more) (floors_shown more) (length (events begun more))) (sym from_is)
+      (subst (λ these. KeepsFacts begun path start these (floors_shown more) (length (events begun more))) (sym facts_are)
+      (subst (λ these. KeepsFacts begun path start known (floors_shown more) (length these)) (sym events_are) keeps))
 
   asked : (ticket device : ℕ) → going_in begun turns ≡ going.Ask device → Keeps begun (Gave (ask_message begun ticket device) ∷ past) (Sends (ask_message begun ticket device) ∷ turns)
   asked ticket device goes =
@@ -191,14 +164,12 @@ module _ (begun : Begun) (valid : IsBegun begun) (past : List Step) (turns : Lis
       by_facts (Gave sent ∷ past) (Sends sent ∷ turns) from known (events begun turns) on.from (on.facts ∙ facts-asked (round_in begun turns).turns ticket device begun) on.events (record {
         counted = counted-ask facts (opens past) begun ticket device keeps.counted;
         within = within-ask begun from facts keeps.within few.0 less;
-        opened = All-cons (IsOpenOf begun (Gave sent ∷ past) from known) sent (opens past)
-            (record { errand = Ask device; is = record { message = refl; member = asked_known begun valid facts.asked device at }; at = tt; sourced = tt })
-            (All-weaker (IsOpenOf begun past from facts) (IsOpenOf begun (Gave sent ∷ past) from known) (same_open begun past (Gave sent) from facts known refl) (opens past) keeps.opened);
+        opened = All-cons (IsOpenOf begun from known) sent (opens past)
+            (record { errand = Ask device; is = record { message = refl; member = asked_known begun valid facts.asked device at }; at = tt })
+            (All-weaker (IsOpenOf begun from facts) (IsOpenOf begun from known) (same_open begun from facts known refl refl) (opens past) keeps.opened);
         brought = zip-weaker (IsBrought begun past from facts) (IsBrought begun (Gave sent ∷ past) from known) (same_brought begun past (Gave sent) from facts known refl) facts.sources facts.archives keeps.brought;
-        lists_told = lists_stay begun past (Gave sent) facts.lists keeps.lists_told;
-        gone_listed = sources_stay begun past (Gave sent) facts.gone keeps.gone_listed;
+        gone_told = All-weaker (IsGoneOf begun past from facts) (IsGoneOf begun (Gave sent ∷ past) from known) (same_gone begun past (Gave sent) from facts known refl refl) facts.gone keeps.gone_told;
         level = keeps.level;
-        events_kept = events_stay begun past (Gave sent) (events begun turns) keeps.events_kept;
         events_few = keeps.events_few;
       })
 
@@ -210,38 +181,23 @@ module _ (begun : Begun) (valid : IsBegun begun) (past : List Step) (turns : Lis
       let next = says.1 in
       let on = fetch_goes_on begun turns ticket stamp source in
       let known : Facts = record facts { tried = facts.tried ++ source ∷ [] } in
-      let listed = source-kept (IsListedOf begun past) begun.cluster.policy (candidates begun.cluster.policy next.to.stamp facts) facts source next.source_is
-      (candidates-of (IsListedOf begun past) begun.cluster.policy next.to.stamp facts
-      (All-weaker (IsToldOf begun past) (OfEntries (IsListedOf begun past) (begun.cluster.policy.k + begun.cluster.policy.m) next.to.stamp)
-      (λ one held entry among listed. record { listing = one.1; held = held; entry = entry; among = among; index_is = refl }) facts.lists keeps.lists_told)) in
+      let listed = source-kept (ListsAt begun.cluster.policy facts.lists next.to.stamp) begun.cluster.policy (candidates begun.cluster.policy next.to.stamp facts) facts source next.source_is
+      (all_listed begun.cluster.policy facts next.to.stamp) in
       by_facts (Gave sent ∷ past) (Sends sent ∷ turns) from known (events begun turns) on.from (on.facts ∙ facts-fetched (round_in begun turns).turns ticket stamp source begun) on.events (record {
         counted = counted-fetch facts (opens past) begun ticket stamp source keeps.counted;
         within = within-fetch begun from facts keeps.within stamp source few.0 (omega (arith, says.0.all_asked, says.0.all_heard)) next;
-        opened = All-cons (IsOpenOf begun (Gave sent ∷ past) from known) sent (opens past)
+        opened = All-cons (IsOpenOf begun from known) sent (opens past)
             (record {
               errand = Fetch stamp source;
               is = record { message = refl; member = source_known begun next.to.stamp facts source next.source_is keeps.within.listed };
-              at = (next.to, next.chosen.target, next.stamp_is);
-              sourced = index_more begun past (Gave sent) source.device source.index listed;
+              at = (next.to, next.chosen.target, next.stamp_is, listed);
             })
-            (All-weaker (IsOpenOf begun past from facts) (IsOpenOf begun (Gave sent ∷ past) from known) (same_open begun past (Gave sent) from facts known refl) (opens past) keeps.opened);
+            (All-weaker (IsOpenOf begun from facts) (IsOpenOf begun from known) (same_open begun from facts known refl refl) (opens past) keeps.opened);
         brought = zip-weaker (IsBrought begun past from facts) (IsBrought begun (Gave sent ∷ past) from known) (same_brought begun past (Gave sent) from facts known refl) facts.sources facts.archives keeps.brought;
-        lists_told = lists_stay begun past (Gave sent) facts.lists keeps.lists_told;
-        gone_listed = sources_stay begun past (Gave sent) facts.gone keeps.gone_listed;
+        gone_told = All-weaker (IsGoneOf begun past from facts) (IsGoneOf begun (Gave sent ∷ past) from known) (same_gone begun past (Gave sent) from facts known refl refl) facts.gone keeps.gone_told;
         level = λ none. absurd (omega (arith, none, length-append facts.tried (source ∷ [])));
-        events_kept = events_stay begun past (Gave sent) (events begun turns) keeps.events_kept;
         events_few = keeps.events_few;
       })
-
-  -- an event of the round
-  pub kept_now : (event : KeptEvent) → KeepSays from facts event → IsKept begun past event
-  kept_now (kept_as.Gone device index) is =
-      subst (λ n. ListsIndex begun past n index) (sym is.2) (subst (ListsIndex begun past is.0.device) (sym is.3) (All-contains (IsListedOf begun past) facts.gone is.0 keeps.gone_listed is.1))
-  kept_now (kept_as.Rose start to) is = by_start start is.1 is.0
-    where
-      by_start : (start : Option Floor) → rises from to ≡ true → start ≡ from → IsKept begun past (kept_as.Rose start to)
-      by_start None is same = tt
-      by_start (Some floor) is same = ap (λ one. rises one to) same ∙ is
 
   first : (ticket device : ℕ) (event : KeptEvent) → going_in begun turns ≡ going.Keep event → length (events begun turns) < most_kept → slice_get (all_devices (devices begun)) 0 ≡ Some device
       → Keeps begun (Gave (ask_message begun ticket device) ∷ past) (Sends (ask_message begun ticket device) ∷ turns)
@@ -257,14 +213,12 @@ module _ (begun : Begun) (valid : IsBegun begun) (past : List Step) (turns : Lis
       (record {
         counted = subst (λ (opened : List Sent). AreCounted known [] (sent ∷ opened)) (sym none) (record { asks = refl; fetches = refl });
         within = within-first begun start (slice_get_within (all_devices (devices begun)) 0 device at);
-        opened = All-cons (IsOpenOf begun (Gave sent ∷ past) start known) sent (opens past)
-            (record { errand = Ask device; is = record { message = refl; member = asked_known begun valid 0 device at }; at = tt; sourced = tt })
-            (subst (All (IsOpenOf begun (Gave sent ∷ past) start known)) (sym none) (All-nil (IsOpenOf begun (Gave sent ∷ past) start known)));
+        opened = All-cons (IsOpenOf begun start known) sent (opens past)
+            (record { errand = Ask device; is = record { message = refl; member = asked_known begun valid 0 device at }; at = tt })
+            (subst (All (IsOpenOf begun start known)) (sym none) (All-nil (IsOpenOf begun start known)));
         brought = tt;
-        lists_told = All-nil (IsToldOf begun (Gave sent ∷ past));
-        gone_listed = All-nil (IsListedOf begun (Gave sent ∷ past));
+        gone_told = All-nil (IsGoneOf begun (Gave sent ∷ past) start known);
         level = λ untried. refl;
-        events_kept = events_stay begun past (Gave sent) kept (All-push (IsKept begun past) (events begun turns) event keeps.events_kept (kept_now event says.2));
         events_few = omega (arith, fewer, length-append (events begun turns) (event ∷ []));
       })
 
@@ -308,41 +262,20 @@ module _ (begun : Begun) (valid : IsBegun begun) (past : List Step) (turns : Lis
         let after : Facts = with_asked facts device meaning in
         let Brought : Meaning → Type 0 = λ meaning. AllZip (IsBrought begun (step ∷ past) from after) (with_asked facts device meaning).sources (with_asked facts device meaning).archives in
         let brought = zip-none (IsBrought begun past from facts) (IsBrought begun (step ∷ past) from after) facts.sources facts.archives (nil_from_length facts.sources (omega (arith, none, few.1))) keeps.brought in
+        let WasGone : Target → Type 0 = λ source. IsGoneOf begun (step ∷ past) from after source in
+        let Gone : Meaning → Type 0 = λ meaning. All WasGone (with_asked facts device meaning).gone in
+        let gone : All WasGone facts.gone = subst (All WasGone) (sym (nil_from_length facts.gone (omega (arith, none, few.1)))) (All-nil WasGone) in
         let none_fetched = none_counted count_fetch (opens past) (omega (arith, none, keeps.counted.fetches)) in
         by_facts (step ∷ past) (Hears sent meaning ∷ turns) from after (events begun turns) refl (facts-answered (round_in begun turns).turns ticket device begun answer) refl (record {
           counted = counted-answered facts left device answer [] taken;
           within = within-answered begun from facts keeps.within device answer errand.member less;
-          opened = All-filter (is_not ticket) (IsOpenOf begun (step ∷ past) from after) (opens past)
-              (λ i d below. asks_only begun past step from facts after _ (none_fetched i d below) (keeps.opened i d below));
+          opened = All-filter (is_not ticket) (IsOpenOf begun from after) (opens past) (λ i d below. asks_only begun from facts after _ (none_fetched i d below) (keeps.opened i d below));
           brought = elim (asked_cases answer) [ inl lists ↦ subst Brought (sym lists.1) brought | inr misses ↦ subst Brought (sym misses.1) brought ];
-          lists_told = listed_more answer (asked_cases answer);
-          gone_listed = gone_still answer (asked_cases answer);
+          gone_told = elim (asked_cases answer) [ inl lists ↦ subst Gone (sym lists.1) gone | inr misses ↦ subst Gone (sym misses.1) gone ];
           level = λ untried. target-heard turns sent meaning ∙ ap (λ best. highest_from best (shown_by meaning)) (keeps.level none) ∙ target_more answer (asked_cases answer);
-          events_kept = events_stay begun past step (events begun turns) keeps.events_kept;
           events_few = keeps.events_few;
         })
       where
-        listed_more : (answer : Option Reply) → AskedCases answer → All (IsToldOf begun (Told (ask_message begun ticket device) answer ∷ past)) (with_asked facts device (asked_meaning answer)).lists
-        listed_more answer (inl lists) =
-            let path = Told (ask_message begun ticket device) answer ∷ past in
-            subst (λ meaning. All (IsToldOf begun path) (with_asked facts device meaning).lists) (sym lists.1)
-            (All-push (IsToldOf begun path) facts.lists (device, lists.0) (lists_stay begun past (Told (ask_message begun ticket device) answer) facts.lists keeps.lists_told)
-            (record { ticket = ticket; told = (zero, omega arith, ap (λ given. Told (ask_message begun ticket device) given) (held_of answer lists.0 lists.1)) }))
-        listed_more answer (inr misses) =
-            let path = Told (ask_message begun ticket device) answer ∷ past in
-            subst (λ meaning. All (IsToldOf begun path) (with_asked facts device meaning).lists) (sym misses.1)
-            (lists_stay begun past (Told (ask_message begun ticket device) answer) facts.lists keeps.lists_told)
-
-        gone_still : (answer : Option Reply) → AskedCases answer → All (IsListedOf begun (Told (ask_message begun ticket device) answer ∷ past)) (with_asked facts device (asked_meaning answer)).gone
-        gone_still answer (inl lists) =
-            let path = Told (ask_message begun ticket device) answer ∷ past in
-            subst (λ meaning. All (IsListedOf begun path) (with_asked facts device meaning).gone) (sym lists.1)
-            (sources_stay begun past (Told (ask_message begun ticket device) answer) facts.gone keeps.gone_listed)
-        gone_still answer (inr misses) =
-            let path = Told (ask_message begun ticket device) answer ∷ past in
-            subst (λ meaning. All (IsListedOf begun path) (with_asked facts device meaning).gone) (sym misses.1)
-            (sources_stay begun past (Told (ask_message begun ticket device) answer) facts.gone keeps.gone_listed)
-
         target_more : (answer : Option Reply) → AskedCases answer → highest_from (target_of from facts) (shown_by (asked_meaning answer)) ≡ target_of from (with_asked facts device (asked_meaning answer))
         target_more answer (inl lists) =
             let floors : ℕ × ListingModel → List Floor = λ one. floors_in one.1 in
@@ -360,9 +293,9 @@ module _ (begun : Begun) (valid : IsBegun begun) (past : List Step) (turns : Lis
         ]
 
     heard_fetch : (stamp : ℕ) (source : Target) (meaning : Meaning) → let sent = fetch_message begun ticket stamp source in open_at ticket past ≡ Some sent → IsErrand begun (Fetch stamp source) sent
-        → AtTarget from facts (Fetch stamp source) → ListsIndex begun past source.device source.index → IsFetched (wanted begun stamp) facts.archives source.index answer meaning
+        → AtTarget begun.cluster.policy from facts (Fetch stamp source) → IsFetched (wanted begun stamp) facts.archives source.index answer meaning
         → Keeps begun (Told sent answer ∷ past) (Hears sent meaning ∷ turns)
-    heard_fetch stamp source meaning is errand at sourced means =
+    heard_fetch stamp source meaning is errand at means =
         let sent = fetch_message begun ticket stamp source in
         let step = Told sent answer in
         let left = opens (step ∷ past) in
@@ -373,44 +306,47 @@ module _ (begun : Begun) (valid : IsBegun begun) (past : List Step) (turns : Lis
           counted = counted-fetched facts left stamp source answer [] meaning
               (λ listing lists. never_lists (wanted begun stamp) facts.archives source.index answer listing (subst (IsFetched (wanted begun stamp) facts.archives source.index answer) lists means)) taken;
           within = within-fetched begun from facts keeps.within source meaning;
-          opened = All-filter (is_not ticket) (IsOpenOf begun (step ∷ past) from after) (opens past)
-              (All-weaker (IsOpenOf begun past from facts) (IsOpenOf begun (step ∷ past) from after) (same_open begun past step from facts after (same_target meaning)) (opens past) keeps.opened);
+          opened = All-filter (is_not ticket) (IsOpenOf begun from after) (opens past)
+              (All-weaker (IsOpenOf begun from facts) (IsOpenOf begun from after) (same_open begun from facts after (same_target meaning) (same_lists meaning)) (opens past) keeps.opened);
           brought = brings meaning means;
-          lists_told = lists_still meaning;
-          gone_listed = gone_more meaning;
+          gone_told = gone_more meaning means;
           level = λ untried. absurd (omega (arith, one_fetched, same_tried meaning, untried));
-          events_kept = events_stay begun past step (events begun turns) keeps.events_kept;
           events_few = keeps.events_few;
         })
       where
-        lists_still : (meaning : Meaning) → All (IsToldOf begun (Told (fetch_message begun ticket stamp source) answer ∷ past)) (with_fetched facts source meaning).lists
-        lists_still (Brings archive) = lists_stay begun past (Told (fetch_message begun ticket stamp source) answer) facts.lists keeps.lists_told
-        lists_still (Lacks listing) = lists_stay begun past (Told (fetch_message begun ticket stamp source) answer) facts.lists keeps.lists_told
-        lists_still (Misses how) = lists_stay begun past (Told (fetch_message begun ticket stamp source) answer) facts.lists keeps.lists_told
-        lists_still (Lists listing) = lists_stay begun past (Told (fetch_message begun ticket stamp source) answer) facts.lists keeps.lists_told
+        same_target : (meaning : Meaning) → target_of from facts ≡ target_of from (with_fetched facts source meaning)
+        same_target (Brings archive) = refl
+        same_target (Lacks listing) = refl
+        same_target (Misses how) = refl
+        same_target (Lists listing) = refl
 
-        before_gone : All (IsListedOf begun (Told (fetch_message begun ticket stamp source) answer ∷ past)) facts.gone
-        before_gone = sources_stay begun past (Told (fetch_message begun ticket stamp source) answer) facts.gone keeps.gone_listed
+        same_lists : (meaning : Meaning) → facts.lists ≡ (with_fetched facts source meaning).lists
+        same_lists (Brings archive) = refl
+        same_lists (Lacks listing) = refl
+        same_lists (Misses how) = refl
+        same_lists (Lists listing) = refl
 
-        gone_more : (meaning : Meaning) → All (IsListedOf begun (Told (fetch_message begun ticket stamp source) answer ∷ past)) (with_fetched facts source meaning).gone
-        gone_more (Brings archive) = before_gone
-        gone_more (Lacks listing) =
-            All-push (IsListedOf begun (Told (fetch_message begun ticket stamp source) answer ∷ past)) facts.gone source before_gone
-            (index_more begun past (Told (fetch_message begun ticket stamp source) answer) source.device source.index sourced)
-        gone_more (Misses how) = before_gone
-        gone_more (Lists listing) = before_gone
+        before_gone : (meaning : Meaning) → All (IsGoneOf begun (Told (fetch_message begun ticket stamp source) answer ∷ past) from (with_fetched facts source meaning)) facts.gone
+        before_gone meaning =
+            All-weaker (IsGoneOf begun past from facts) (IsGoneOf begun (Told (fetch_message begun ticket stamp source) answer ∷ past) from (with_fetched facts source meaning))
+            (same_gone begun past (Told (fetch_message begun ticket stamp source) answer) from facts (with_fetched facts source meaning) (same_target meaning) (same_lists meaning)) facts.gone keeps.gone_told
+
+        gone_more : (meaning : Meaning) → IsFetched (wanted begun stamp) facts.archives source.index answer meaning
+            → All (IsGoneOf begun (Told (fetch_message begun ticket stamp source) answer ∷ past) from (with_fetched facts source meaning)) (with_fetched facts source meaning).gone
+        gone_more (Brings archive) means = before_gone (Brings archive)
+        gone_more (Lacks listing) means =
+            let path = Told (fetch_message begun ticket stamp source) answer ∷ past in
+            let told = subst (λ n. Contains path (Told (fetch_message begun ticket n source) answer)) at.2 (zero, omega arith, refl) in
+            All-push (IsGoneOf begun path from (with_fetched facts source (Lacks listing))) facts.gone source (before_gone (Lacks listing))
+            (at.0, at.1, at.3, ticket, listing, subst (λ given. Contains path (Told (fetch_message begun ticket at.0.stamp source) given)) (gone_of begun turns stamp source.index listing answer means) told)
+        gone_more (Misses how) means = before_gone (Misses how)
+        gone_more (Lists listing) means = before_gone (Lists listing)
 
         same_tried : (meaning : Meaning) → length (with_fetched facts source meaning).tried ≡ length facts.tried
         same_tried (Brings archive) = refl
         same_tried (Lacks listing) = refl
         same_tried (Misses how) = refl
         same_tried (Lists listing) = refl
-
-        same_target : (meaning : Meaning) → target_of from facts ≡ target_of from (with_fetched facts source meaning)
-        same_target (Brings archive) = refl
-        same_target (Lacks listing) = refl
-        same_target (Misses how) = refl
-        same_target (Lists listing) = refl
 
         still : (after : Facts) → target_of from facts ≡ target_of from after
             → AllZip (IsBrought begun (Told (fetch_message begun ticket stamp source) answer ∷ past) from after) facts.sources facts.archives
@@ -437,20 +373,20 @@ module _ (begun : Begun) (valid : IsBegun begun) (past : List Step) (turns : Lis
         brings (Misses how) means = still (with_fetched facts source (Misses how)) refl
         brings (Lists listing) means = still facts refl
 
-    told : (sent : Sent) (meaning : Meaning) → open_at sent.ticket past ≡ Some sent → sent.ticket ≡ ticket → IsMeant begun turns sent.msg answer meaning → (errand : Errand) → IsErrand begun errand sent → AtTarget from facts errand → IsSourced begun past errand
+    told : (sent : Sent) (meaning : Meaning) → open_at sent.ticket past ≡ Some sent → sent.ticket ≡ ticket → IsMeant begun turns sent.msg answer meaning → (errand : Errand) → IsErrand begun errand sent → AtTarget begun.cluster.policy from facts errand
         → Keeps begun (Told sent answer ∷ past) (Hears sent meaning ∷ turns)
-    told sent meaning is own means (Ask device) errand at sourced =
+    told sent meaning is own means (Ask device) errand at =
         let same : sent ≡ ask_message begun ticket device = errand.message ∙ ap (λ n. ask_message begun n device) own in
         let meant : meaning ≡ asked_meaning answer = subst (λ (one : Sent). IsMeant begun turns one.msg answer meaning) same means in
         let opened : open_at ticket past ≡ Some (ask_message begun ticket device) = ap (λ n. open_at n past) (sym own) ∙ is ∙ ap (λ (one : Sent). Some one) same in
         subst (λ (one : Sent). Keeps begun (Told one answer ∷ past) (Hears one meaning ∷ turns)) (sym same)
         (subst (λ m. Keeps begun (Told (ask_message begun ticket device) answer ∷ past) (Hears (ask_message begun ticket device) m ∷ turns)) (sym meant)
         (heard_ask device opened (subst (IsErrand begun (Ask device)) same errand)))
-    told sent meaning is own means (Fetch stamp source) errand at sourced =
+    told sent meaning is own means (Fetch stamp source) errand at =
         let same : sent ≡ fetch_message begun ticket stamp source = errand.message ∙ ap (λ n. fetch_message begun n stamp source) own in
         let opened : open_at ticket past ≡ Some (fetch_message begun ticket stamp source) = ap (λ n. open_at n past) (sym own) ∙ is ∙ ap (λ (one : Sent). Some one) same in
         subst (λ (one : Sent). Keeps begun (Told one answer ∷ past) (Hears one meaning ∷ turns)) (sym same)
-        (heard_fetch stamp source meaning opened (subst (IsErrand begun (Fetch stamp source)) same errand) at sourced
+        (heard_fetch stamp source meaning opened (subst (IsErrand begun (Fetch stamp source)) same errand) at
         (subst (λ (one : Sent). IsMeant begun turns one.msg answer meaning) same means))
 
 -- ---- every transcript
@@ -470,19 +406,17 @@ ticket_after begun turns sent (going.Keep event) is = by_count (nat_lt (length (
     by_count true same = by_device (slice_get (all_devices (devices begun)) 0) same
     by_count false same = absurd (cc)
 
-numbers : (begun : Begun) (past : List Step) (sent : Sent) → IsNext begun past (Hand sent) → sent.ticket ≡ length (given past)
+pub numbers : (begun : Begun) (past : List Step) (sent : Sent) → IsNext begun past (Hand sent) → sent.ticket ≡ length (given past)
 numbers begun past sent next = ticket_after begun next.0 sent (going_in begun next.0) next.2 ∙ sends-given begun past next.0 next.1
 
 none_kept : (begun : Begun) → Keeps begun [] []
 none_kept begun = record {
   counted = record { asks = refl; fetches = refl };
   within = record { asked_few = omega arith; tried_few = omega arith; listed = All-nil (λ (one : ℕ × ListingModel). IsMember begun.cluster one.0); fetching = λ some. absurd (omega (arith, some)) };
-  opened = All-nil (IsOpenOf begun [] (from_in begun []) (facts_in begun []));
+  opened = All-nil (IsOpenOf begun (from_in begun []) (facts_in begun []));
   brought = tt;
-  lists_told = All-nil (IsToldOf begun []);
-  gone_listed = All-nil (IsListedOf begun []);
+  gone_told = All-nil (IsGoneOf begun [] (from_in begun []) (facts_in begun []));
   level = λ untried. refl;
-  events_kept = All-nil (IsKept begun []);
   events_few = omega arith;
 }
 
@@ -499,7 +433,7 @@ all_kept begun valid (Told sent answer ∷ past) run [] are = absurd are
 all_kept begun valid (Told sent answer ∷ past) run (Sends same ∷ turns) are = absurd are
 all_kept begun valid (Told sent answer ∷ past) run (Hears same meaning ∷ turns) are =
     let keeps = all_kept begun valid past run.1 turns are.2 in
-    let own = found (IsOpenOf begun past (from_in begun turns) (facts_in begun turns)) sent.ticket (opens past) sent run.0 keeps.opened in
+    let own = found (IsOpenOf begun (from_in begun turns) (facts_in begun turns)) sent.ticket (opens past) sent run.0 keeps.opened in
     let apart = (numbered (IsNext begun) (numbers begun) past run.1).apart in
     subst (λ (one : Sent). Keeps begun (Told sent answer ∷ past) (Hears one meaning ∷ turns)) (sym are.0)
-    (told begun valid past turns keeps sent.ticket answer apart sent meaning run.0 refl are.1 own.0.errand own.0.is own.0.at own.0.sourced)
+    (told begun valid past turns keeps sent.ticket answer apart sent meaning run.0 refl are.1 own.0.errand own.0.is own.0.at)

@@ -77,6 +77,7 @@ module _ (begun : Begun) (turns : List Turn) where
 
   -- a message of the round that goes on
   pub record GoesOn (sent : Sent) : Type 0 where
+    pub round : (round_in begun (Sends sent ∷ turns)).turns ≡ Sends sent ∷ now
     pub facts : facts_in begun (Sends sent ∷ turns) ≡ facts_of (Sends sent ∷ now)
     pub from : from_in begun (Sends sent ∷ turns) ≡ from_in begun turns
     pub events : events begun (Sends sent ∷ turns) ≡ events begun turns
@@ -86,6 +87,7 @@ module _ (begun : Begun) (turns : List Turn) where
       let same : round_in begun (Sends sent ∷ turns) ≡ record { turns = Sends sent ∷ now; earlier = (round_in begun turns).earlier } =
       ap (λ b. if b then record { turns = Sends sent ∷ []; earlier = turns } else record { turns = Sends sent ∷ now; earlier = (round_in begun turns).earlier }) none in
       record {
+        round = ap (λ (round : Round). round.turns) same;
         facts = ap (λ (round : Round). facts_of round.turns) same;
         from = ap (λ (round : Round). highest (floors_shown round.earlier)) same;
         events = ap (λ b. if b then events begun turns ++ event_of (going_in begun turns) else events begun turns) none;
@@ -99,6 +101,7 @@ module _ (begun : Begun) (turns : List Turn) where
 
   -- the first message of another round
   pub record Begins (sent : Sent) : Type 0 where
+    pub round : (round_in begun (Sends sent ∷ turns)).turns ≡ Sends sent ∷ []
     pub facts : facts_in begun (Sends sent ∷ turns) ≡ facts_of (Sends sent ∷ [])
     pub from : from_in begun (Sends sent ∷ turns) ≡ highest (floors_shown turns)
     pub events : events begun (Sends sent ∷ turns) ≡ events begun turns ++ event_of (going_in begun turns)
@@ -110,6 +113,7 @@ module _ (begun : Begun) (turns : List Turn) where
       let another : round_in begun (Sends sent ∷ turns) ≡ record { turns = Sends sent ∷ []; earlier = turns } =
       ap (λ b. if b then record { turns = Sends sent ∷ []; earlier = turns } else record { turns = Sends sent ∷ now; earlier = (round_in begun turns).earlier }) first in
       record {
+        round = ap (λ (round : Round). round.turns) another;
         facts = ap (λ (round : Round). facts_of round.turns) another;
         from = ap (λ (round : Round). highest (floors_shown round.earlier)) another;
         events = ap (λ b. if b then events begun turns ++ event_of (going_in begun turns) else events begun turns) first;

@@ -1,22 +1,29 @@
--- What the ends of a get show.
-use Rattle.std.specs.Prelude.{◌≡◌, ◌≢◌, ◌↔◌, ℕ, ◌+◌, ◌<◌, Bool, true, List, [], length, Contains, Some, None, ⊤}
+-- What the ends of a get show, in words of their own: of the rules they take the rounds, and what was handed out in them.
+use Rattle.std.specs.Prelude.{◌≡◌, ◌≢◌, ◌⊎◌, ◌↔◌, ℕ, ◌+◌, ◌<◌, ◌≤◌, Bool, List, [], ◌∷◌, ◌++◌, flat_map, length, reverse, Contains, Option, Some, None, ⊤}
 use Rattle.std.specs.List.{All, AllPairs}
 use Rattle.sw_types.specs.Object.{IsObject, ObjectModel}
+use Rattle.sw_types.specs.Policy.{PolicyModel}
+use Rattle.sw_hashdir.specs.Directory.{IsAbove}
 use Rattle.sw_hashdir.specs.Listing.{ListingModel}
-use Rattle.sw_hashdir.specs.declared.entry.Entry.{Entry}
+use Rattle.sw_hashdir.specs.declared.floor.Floor.{Floor}
 use Rattle.sw_archive.specs.Put.{put_archive}
-use Rattle.sw_message.specs.Floors.{IsHighest, is_above, tombstone_floor}
+use Rattle.sw_message.specs.Floors.{IsHighest, durable_at, floors_in, tombstone_floor}
 use Rattle.sw_message.specs.Learnt.{Booked, Learnt}
+use Rattle.sw_message.specs.Message.{IsMember}
+use Rattle.sw_message.specs.Miss.{miss_of}
 use Rattle.sw_message.specs.Transcript.{Step, Told}
-use Rattle.sw_message.specs.Warrant.{HasListing}
+use Rattle.sw_message.specs.declared.message.Msg.{Msg}
+use Rattle.sw_message.specs.declared.message.Msg.TheVariants as message
 use Rattle.sw_message.specs.declared.miss.Miss.{Miss}
+use Rattle.sw_message.specs.declared.miss.Miss.TheVariants as miss
 use Rattle.sw_message.specs.declared.reply.Reply.{Reply}
 use Rattle.sw_message.specs.declared.reply.Reply.TheVariants as reply
 use Rattle.sw_message.specs.declared.sent.Sent.{Sent}
+use Rattle.sw_message.specs.declared.spoil.Spoil.{Spoil}
 use Rattle.sw_message.specs.declared.target.Target.{Target}
-use Rattle.sw_get.specs.Get.{AreTurns, Begun, Hears, Turn, ask_message, facts_in, fetch_message, floors_shown, round_in}
-use Rattle.sw_get.specs.Meaning.{Misses}
-use Rattle.sw_get.specs.Round.{Facts}
+use Rattle.sw_get.specs.Get.{AreTurns, Begun, Hears, Turn, ask_message, devices, facts_in, fetch_message, floors_shown, round_in}
+use Rattle.sw_get.specs.Meaning.{Lacks, Meaning, Misses}
+use Rattle.sw_get.specs.Round.{all_devices}
 use Rattle.sw_get.specs.declared.round_end.KeptEvent.{KeptEvent}
 use Rattle.sw_get.specs.declared.round_end.KeptEvent.TheVariants.{Gone, Rose}
 
@@ -25,32 +32,35 @@ pub record IsBook (book : List Booked) : Type 0 where
   pub one : (a b : Booked) → Contains book a → Contains book b → a.stamp ≡ b.stamp → a ≡ b
   pub objects : (booked : Booked) → Contains book booked → IsObject booked.object
 
--- an answer has this listing
-pub record IsListed (past : List Step) (listing : ListingModel) : Type 0 where
+-- ---- answers
+
+-- an answer to a message shows this listing
+abbrev pub Shows : Msg → Reply → ListingModel → Type 0
+Shows (message.Ask place) (reply.Held listing) shown = listing ≡ shown
+Shows (message.Fetch place stamp index) (reply.Gone listing) shown = listing ≡ shown
+Shows msg other shown = ⊥
+
+-- so does some answer of a transcript
+pub record IsShown (past : List Step) (listing : ListingModel) : Type 0 where
   pub sent : Sent
   pub given : Reply
   pub told : Contains past (Told sent (Some given))
-  pub lists : HasListing given listing
+  pub shows : Shows sent.msg given listing
 
--- a device that was asked has this listing
-pub record IsHeld (begun : Begun) (past : List Step) (device : ℕ) (listing : ListingModel) : Type 0 where
-  pub ticket : ℕ
-  pub told : Contains past (Told (ask_message begun ticket device) (Some (reply.Held listing)))
-
--- a device that was asked lists an archive of the index
-pub record ListsIndex (begun : Begun) (past : List Step) (device index : ℕ) : Type 0 where
+-- a listing that is shown has this floor as its greatest
+pub record HasFloor (past : List Step) (floor : Floor) : Type 0 where
   pub listing : ListingModel
-  pub held : IsHeld begun past device listing
-  pub entry : Entry
-  pub among : Contains listing.entries entry
-  pub index_is : entry.index ≡ index
+  pub shown : IsShown past listing
+  pub greatest : IsHighest (floors_in listing) (Some floor)
 
--- some answer lists a durable entry of the stamp
-pub record ListsDurable (past : List Step) (stamp : ℕ) : Type 0 where
-  pub listing : ListingModel
-  pub listed : IsListed past listing
-  pub index : ℕ
-  pub entry : Contains listing.entries (record { stamp = stamp; index = index; durable = true })
+-- Why an answer to a message is a miss: it was given up, the bytes that were fetched are spoiled, or the reply says so or does not
+-- answer the message.
+abbrev pub IsMissOf : Msg → Option Reply → Miss → Type 0
+IsMissOf msg None how = how ≡ miss.NoReply
+IsMissOf (message.Ask place) (Some (reply.Held listing)) how = ⊥
+IsMissOf (message.Fetch place stamp index) (Some (reply.Gone listing)) how = ⊥
+IsMissOf (message.Fetch place stamp index) (Some (reply.Fragment bytes)) how = (spoil : Spoil) × (how ≡ miss.Spoiled spoil)
+IsMissOf msg (Some other) how = how ≡ miss_of other
 
 -- the source was asked for the archive of its index at the stamp, and sent the one of the put
 pub record IsSource (begun : Begun) (past : List Step) (stamp : ℕ) (object : ObjectModel) (source : Target) : Type 0 where
@@ -59,68 +69,180 @@ pub record IsSource (begun : Begun) (past : List Step) (stamp : ℕ) (object : O
   pub told : Contains past (Told (fetch_message begun ticket stamp source) (Some (reply.Fragment bytes)))
   pub archive : bytes ≡ put_archive begun.cluster.policy stamp begun.name object source.index
 
--- Where a get has found an object: it was put under the get's name at that stamp, some answer showed that stamp durable, and k
--- sources of different indices sent the archives of that put.
+-- ---- rounds
+
+-- a device was asked in some turns, and answered or was given up
+pub record IsAnswered (begun : Begun) (turns : List Turn) (device : ℕ) : Type 0 where
+  pub ticket : ℕ
+  pub meaning : Meaning
+  pub heard : Contains turns (Hears (ask_message begun ticket device) meaning)
+
+-- every device of the cluster was asked once in a round, and answered or was given up
+pub record AllAnswered (begun : Begun) (turns : List Turn) : Type 0 where
+  pub each : (device : ℕ) → IsMember begun.cluster device → IsAnswered begun (round_in begun turns).turns device
+  pub once : (facts_in begun turns).asked ≡ length (all_devices (devices begun))
+
+-- the turns of a transcript, in whose last round every device answered or was given up
+pub record LastRound (begun : Begun) (past : List Step) : Type 0 where
+  pub turns : List Turn
+  pub are : AreTurns begun past turns
+  pub all_answered : AllAnswered begun turns
+
+-- the floors that were shown before a round, and in it by answers to questions
+abbrev pub floors_before : Begun → List Turn → List Floor
+floors_before begun turns = floors_shown (round_in begun turns).earlier
+
+abbrev pub floors_listed : Begun → List Turn → List Floor
+floors_listed begun turns = flat_map (λ (one : ℕ × ListingModel). floors_in one.1) (facts_in begun turns).lists
+
+-- the target of a round is the greatest of them
+abbrev pub HasTarget : Begun → List Turn → Floor → Type 0
+HasTarget begun turns floor = IsHighest (floors_before begun turns ++ floors_listed begun turns) (Some floor)
+
+-- it is a durable stamp, and did not rise in the round
+pub record IsLevel (begun : Begun) (turns : List Turn) (stamp : ℕ) : Type 0 where
+  pub target : HasTarget begun turns (durable_at stamp)
+  pub before : Contains (floors_before begun turns) (durable_at stamp)
+
+-- ---- archives that are not to be had
+
+-- an entry of the source's index, below the total, and of the stamp is listed by the source's device
+pub record ListsAt (policy : PolicyModel) (lists : List (ℕ × ListingModel)) (stamp : ℕ) (source : Target) : Type 0 where
+  pub below : source.index < policy.k + policy.m
+  pub listing : ListingModel
+  pub listed : Contains lists (source.device, listing)
+  pub durable : Bool
+  pub entry : Contains listing.entries (record { stamp = stamp; index = source.index; durable = durable })
+
+-- the indices that are listed so
+pub record AreIndices (policy : PolicyModel) (lists : List (ℕ × ListingModel)) (stamp : ℕ) (indices : List ℕ) : Type 0 where
+  pub apart : AllPairs (λ one other. one ≢ other) indices
+  pub listed : (index : ℕ) → Contains indices index ↔ ((device : ℕ) × ListsAt policy lists stamp (record { index = index; device = device }))
+
+-- Entries of fewer than k indices are listed in a round at the stamp.
+pub record AreShort (begun : Begun) (turns : List Turn) (stamp : ℕ) : Type 0 where
+  pub indices : List ℕ
+  pub are : AreIndices begun.cluster.policy (facts_in begun turns).lists stamp indices
+  pub few : length indices < begun.cluster.policy.k
+
+-- the archive that a source was asked for was not there, or the answer was a miss
+abbrev pub IsLoss : Meaning → Type 0
+IsLoss (Lacks listing) = ⊤
+IsLoss (Misses how) = ⊤
+IsLoss other = ⊥
+
+pub record WasLost (begun : Begun) (turns : List Turn) (stamp : ℕ) (source : Target) : Type 0 where
+  pub ticket : ℕ
+  pub meaning : Meaning
+  pub heard : Contains turns (Hears (fetch_message begun ticket stamp source) meaning)
+  pub loss : IsLoss meaning
+
+-- Entries of k indices or more are listed in a round at the stamp, and fewer than k archives were brought; of each listed source the
+-- archive was lost, or one of its index was brought.
+pub record AreUsedUp (begun : Begun) (turns : List Turn) (stamp : ℕ) : Type 0 where
+  pub indices : List ℕ
+  pub are : AreIndices begun.cluster.policy (facts_in begun turns).lists stamp indices
+  pub enough : begun.cluster.policy.k ≤ length indices
+  pub few : length (facts_in begun turns).sources < begun.cluster.policy.k
+  pub spent : (source : Target) → ListsAt begun.cluster.policy (facts_in begun turns).lists stamp source
+      → WasLost begun (round_in begun turns).turns stamp source ⊎ ((other : Target) × Contains (facts_in begun turns).sources other × (other.index ≡ source.index))
+
+-- too few indices are listed, or the listed sources are used up though no archive was gone
+abbrev pub AreWanting : Begun → List Turn → ℕ → Type 0
+AreWanting begun turns stamp = AreShort begun turns stamp ⊎ (AreUsedUp begun turns stamp × ((facts_in begun turns).gone ≡ []))
+
+-- ---- the ends
+
+-- Where a get has found an object: it was put under the get's name at that stamp; the stamp is the target of the last round, and the
+-- greatest floor of some listing that was shown; and k sources of different indices sent the archives of that put.
 pub record IsPutFound (begun : Begun) (past : List Step) (learnt : Learnt) (stamp : ℕ) (object : ObjectModel) (sources : List Target) : Type 0 where
   pub booked : Contains learnt.book (record { stamp = stamp; name = begun.name; object = object })
-  pub durable : ListsDurable past stamp
+  pub last : LastRound begun past
+  pub target : HasTarget begun last.turns (durable_at stamp)
+  pub durable : HasFloor past (durable_at stamp)
   pub count : length sources ≡ begun.cluster.policy.k
   pub apart : AllPairs (λ one other. one.index ≢ other.index) sources
   pub sent : All (IsSource begun past stamp object) sources
 
--- ---- other ends
-
--- Where a get ends as absent, no answer showed a floor, and fewer than c devices missed in its last round.
+-- Where it ends as absent, no answer shows a floor, and fewer than c devices missed in its last round.
 pub record IsAbsent (begun : Begun) (past : List Step) : Type 0 where
-  pub turns : List Turn
-  pub are : AreTurns begun past turns
-  pub none_shown : floors_shown turns ≡ []
-  pub few_missed : length (facts_in begun turns).misses < begun.cluster.policy.c
+  pub last : LastRound begun past
+  pub none_shown : (listing : ListingModel) → IsShown past listing → floors_in listing ≡ []
+  pub few_missed : length (facts_in begun last.turns).misses < begun.cluster.policy.c
 
--- Where it ends as buried, some answer lists the tombstone of that stamp, and it is the greatest floor that any answer showed.
+-- Where it ends as buried, some answer shows the tombstone of that stamp, and none shows a floor above it.
 pub record IsBuried (begun : Begun) (past : List Step) (stamp : ℕ) : Type 0 where
-  pub turns : List Turn
-  pub are : AreTurns begun past turns
-  pub greatest : IsHighest (floors_shown turns) (Some (tombstone_floor stamp))
-  pub listing : ListingModel
-  pub listed : IsListed past listing
-  pub tombstone : Contains listing.tombstones stamp
+  pub last : LastRound begun past
+  pub shown : HasFloor past (tombstone_floor stamp)
+  pub greatest : (listing : ListingModel) (floor : Floor) → IsShown past listing → Contains (floors_in listing) floor → IsAbove floor (tombstone_floor stamp) → ⊥
 
--- a device missed, in these turns
-abbrev pub MissedIn : List Turn → ℕ × Miss → Type 0
-MissedIn turns one = (sent : Sent) × Contains turns (Hears sent (Misses one.1)) × (sent.device ≡ one.0)
+-- a device missed in some turns: it was given up, or its reply was such a miss
+pub record WasMissed (past : List Step) (turns : List Turn) (one : ℕ × Miss) : Type 0 where
+  pub sent : Sent
+  pub answer : Option Reply
+  pub heard : Contains turns (Hears sent (Misses one.1))
+  pub told : Contains past (Told sent answer)
+  pub device : sent.device ≡ one.0
+  pub miss : IsMissOf sent.msg answer one.1
 
--- Where it is unanswered, some device missed, and each miss is one of its last round.
+-- Why a round ends a get as unanswered: no floor was shown, and c devices or more missed; or its target did not rise in it, and the
+-- archives of that are wanting.
+abbrev pub LeavesUnanswered : Begun → List Turn → Type 0
+LeavesUnanswered begun turns = ((floors_shown turns ≡ []) × (begun.cluster.policy.c ≤ length (facts_in begun turns).misses)) ⊎ ((stamp : ℕ) × IsLevel begun turns stamp × AreWanting begun turns stamp)
+
+-- Where a get ends as unanswered, it tells the misses of its last round, one or more.
 pub record IsUnanswered (begun : Begun) (past : List Step) (misses : List (ℕ × Miss)) : Type 0 where
-  pub turns : List Turn
-  pub are : AreTurns begun past turns
+  pub last : LastRound begun past
   pub some : 0 < length misses
-  pub of_round : All (MissedIn (round_in begun turns).turns) misses
+  pub are : misses ≡ (facts_in begun last.turns).misses
+  pub missed : All (WasMissed past (round_in begun last.turns).turns) misses
+  pub why : LeavesUnanswered begun last.turns
 
--- an index below the total is listed in a round at a stamp
-abbrev pub ListsAt : Begun → Facts → (stamp index : ℕ) → Type 0
-ListsAt begun facts stamp index =
-    (index < begun.cluster.policy.k + begun.cluster.policy.m) × (one : ℕ × ListingModel) × Contains facts.lists one
-    × (durable : Bool) × Contains one.1.entries (record { stamp = stamp; index = index; durable = durable })
-
--- Where too few were listed, no device missed in its last round, which lists so many indices at the stamp, fewer than k.
+-- Where too few were listed, no device missed in the last round, whose target is that stamp and did not rise, and which lists so many
+-- indices at it, fewer than k.
 pub record IsTooFew (begun : Begun) (past : List Step) (stamp have : ℕ) : Type 0 where
+  pub last : LastRound begun past
+  pub level : IsLevel begun last.turns stamp
+  pub none_missed : (facts_in begun last.turns).misses ≡ []
+  pub short : AreShort begun last.turns stamp
+  pub count : length short.indices ≡ have
+
+-- ---- rounds that are kept as events
+
+-- the listed sources are used up, and of those whose archives were gone this was the first: its device had listed it in this round, and
+-- said so as it was asked for the archive
+pub record IsGone (begun : Begun) (past : List Step) (turns : List Turn) (source : Target) : Type 0 where
+  pub stamp : ℕ
+  pub target : HasTarget begun turns (durable_at stamp)
+  pub used_up : AreUsedUp begun turns stamp
+  pub others : List Target
+  pub first : (facts_in begun turns).gone ≡ source ∷ others
+  pub listed : ListsAt begun.cluster.policy (facts_in begun turns).lists stamp source
+  pub ticket : ℕ
+  pub listing : ListingModel
+  pub told : Contains past (Told (fetch_message begun ticket stamp source) (Some (reply.Gone listing)))
+
+-- the target rose above every floor before the round, and its archives are wanting
+pub record IsRisen (begun : Begun) (turns : List Turn) (start : Option Floor) (to : Floor) : Type 0 where
+  pub start_is : IsHighest (floors_before begun turns) start
+  pub target : HasTarget begun turns to
+  pub above : (other : Floor) → Contains (floors_before begun turns) other → IsAbove to other
+  pub stamp : ℕ
+  pub durable : to ≡ durable_at stamp
+  pub wanting : AreWanting begun turns stamp
+
+abbrev pub IsEventOf : Begun → List Step → List Turn → KeptEvent → Type 0
+IsEventOf begun past turns (Gone device index) = IsGone begun past turns (record { index = index; device = device })
+IsEventOf begun past turns (Rose start to) = IsRisen begun turns start to
+
+-- Each round of some turns was kept as an event, the latest first: every device answered or was given up, and the event has its cause.
+abbrev pub AreKept : Begun → List Step → List Turn → List KeptEvent → Type 0
+AreKept begun past turns [] = turns ≡ []
+AreKept begun past turns (event ∷ events) = AllAnswered begun turns × IsEventOf begun past turns event × AreKept begun past (round_in begun turns).earlier events
+
+-- Where it was overtaken, each of its rounds was kept as an event, eight in all.
+pub record IsOvertaken (begun : Begun) (past : List Step) (events : List KeptEvent) : Type 0 where
   pub turns : List Turn
   pub are : AreTurns begun past turns
-  pub none_missed : (facts_in begun turns).misses ≡ []
-  pub few : have < begun.cluster.policy.k
-  pub indices : List ℕ
-  pub count : length indices ≡ have
-  pub apart : AllPairs (λ one other. one ≢ other) indices
-  pub listed : (index : ℕ) → Contains indices index ↔ ListsAt begun (facts_in begun turns) stamp index
-
--- an event: an archive that a device had listed was gone, or the greatest floor rose above that before, if there was one
-abbrev pub IsKept : Begun → List Step → KeptEvent → Type 0
-IsKept begun past (Gone device index) = ListsIndex begun past device index
-IsKept begun past (Rose None to) = ⊤
-IsKept begun past (Rose (Some from) to) = is_above to from ≡ true
-
--- Where it was overtaken, eight rounds were kept as such events.
-pub record IsOvertaken (begun : Begun) (past : List Step) (events : List KeptEvent) : Type 0 where
+  pub kept : AreKept begun past turns (reverse events)
   pub count : length events ≡ 8
-  pub all : All (IsKept begun past) events

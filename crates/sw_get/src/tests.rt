@@ -1,6 +1,7 @@
 //! Gets driven by hand to each of their ends.
 
-use crate::{GetEnd, GetOp, KeptEvent};
+use crate::tests::Answer::{Archive, Damaged, Durable, Empty, Gone, Other, Silence, Tombstone};
+use crate::{GetEnd, GetOp};
 use std::alloc::Global;
 use std::test::Fail;
 use sw_archive::make_archive;
@@ -40,33 +41,61 @@ fn held(alloc: Global, names: &[String]) -> Result<Reply, Fail> {
     Ok(Reply::Held(HashDir::of(alloc, names)?.listing(alloc)?))
 }
 
-// Answers, each by a letter: `a` to `h` list a durable archive of index 0 at the stamps 1 to 8, `1` and `2` one of that index at 7,
-// `t` a tombstone at 8, `.` nothing; `A` to `C` are the archives of 7, `D` is one of another body, `E` one of 8, `s` no archive, `-`
-// says that it is not there, and `x` is no answer.
-fn reply(alloc: Global, letter: u8) -> Result<Option<Reply>, Fail> {
-    let mut names = Vec::new(alloc);
-    match letter {
-        b'A' => return Ok(Some(archive(alloc, 7, 0, b"abc")?)),
-        b'B' => return Ok(Some(archive(alloc, 7, 1, b"abc")?)),
-        b'C' => return Ok(Some(archive(alloc, 7, 2, b"abc")?)),
-        b'D' => return Ok(Some(archive(alloc, 7, 1, b"abd")?)),
-        b'E' => return Ok(Some(archive(alloc, 8, 1, b"abc")?)),
-        b's' => return Ok(Some(Reply::Fragment(Bytes::from_slice(alloc, b"abc")?))),
-        b'-' => return Ok(Some(Reply::Gone(HashDir::of(alloc, &names)?.listing(alloc)?))),
-        b'x' => return Ok(None),
-        b'a'..=b'h' => {
-            let units = letter - b'a' + 1;
-            names.push(format!(in alloc; "0000000000.0000{units}#0#d.data")?)?;
-        }
-        b'1' => names.push(format!(in alloc; "0000000000.00007#1#d.data")?)?,
-        b'2' => names.push(format!(in alloc; "0000000000.00007#2#d.data")?)?,
-        b't' => names.push(format!(in alloc; "0000000000.00008.ts")?)?,
-        _ => {}
-    }
-    Ok(Some(held(alloc, &names)?))
+// What a device answers.
+#[derive(Clone, Copy, Debug)]
+enum Answer {
+    // It lists nothing.
+    Empty,
+    // It lists a durable archive of a stamp and an index.
+    Durable(u64, u32),
+    // It lists a tombstone of a stamp.
+    Tombstone(u64),
+    // The archive of a stamp and an index, and that of another body.
+    Archive(u64, u32),
+    Other(u64, u32),
+    // Bytes that are no archive.
+    Damaged,
+    // The archive is not there.
+    Gone,
+    // There is no answer.
+    Silence,
 }
 
-fn answer(op: &mut GetOp, ticket: u64, reply: Option<Reply>) {
+// The archives of one stamp, and a place that has them all.
+const FIRST: Answer = Durable(7, 0);
+
+const SECOND: Answer = Durable(7, 1);
+
+const WHOLE: [Answer; 4] = [Empty, FIRST, SECOND, Durable(7, 2)];
+
+impl Answer {
+    fn reply(self, alloc: Global) -> Result<Option<Reply>, Fail> {
+        let mut names = Vec::new(alloc);
+        match self {
+            Answer::Empty => {}
+            Answer::Durable(units, index) => {
+                names.push(format!(in alloc; "0000000000.0000{units}#{index}#d.data")?)?;
+            }
+            Answer::Tombstone(units) => names.push(format!(in alloc;
+                "0000000000.0000{units}.ts"
+            )?)?,
+            Answer::Archive(units, index) => {
+                return Ok(Some(archive(alloc, units, index, b"abc")?));
+            }
+            Answer::Other(units, index) => return Ok(Some(archive(alloc, units, index, b"abd")?)),
+            Answer::Damaged => {
+                return Ok(Some(Reply::Fragment(Bytes::from_slice(alloc, b"abc")?)));
+            }
+            Answer::Gone => return Ok(Some(Reply::Gone(HashDir::of(alloc, &names)?.listing(
+                alloc,
+            )?))),
+            Answer::Silence => return Ok(None),
+        }
+        Ok(Some(held(alloc, &names)?))
+    }
+}
+
+fn give(op: &mut GetOp, ticket: u64, reply: Option<Reply>) {
     match reply {
         Some(reply) => op.take(ticket, reply),
         None => op.give_up(ticket),
@@ -74,16 +103,18 @@ fn answer(op: &mut GetOp, ticket: u64, reply: Option<Reply>) {
 }
 
 // Answers each message before the next one is handed out, and gives how many there were.
-fn driven(alloc: Global, op: &mut GetOp, letters: &[u8]) -> Result<usize, Fail> {
-    for (count, letter) in letters.iter().enumerate() {
-        let Some(sent) = op.next()? else {
-            return Ok(count);
-        };
-        answer(op, sent.ticket, reply(alloc, *letter)?);
+fn driven(alloc: Global, op: &mut GetOp, rounds: u32, answers: &[Answer]) -> Result<usize, Fail> {
+    for _ in 0..rounds {
+        for (count, one) in answers.iter().enumerate() {
+            let Some(sent) = op.next()? else {
+                return Ok(count);
+            };
+            give(op, sent.ticket, one.reply(alloc)?);
+        }
     }
     match op.next()? {
         Some(_) => Err("more messages than answers".into()),
-        None => Ok(letters.len()),
+        None => Ok(answers.len()),
     }
 }
 
@@ -139,34 +170,118 @@ impl Ends {
 }
 
 #[test]
-fn ends_by_the_answers(rt: HostRuntime) -> Result<(), Fail> {
+fn ends_by_the_lists(rt: HostRuntime) -> Result<(), Fail> {
     let alloc = rt.alloc();
-    let cases: [(&[u8], Ends); 15] = [
-        (b"....", Ends::Absent),
-        (b"..x.", Ends::Absent),
+    let cases: [(u32, [Answer; 4], Ends); 6] = [
+        (1, [Empty, Empty, Empty, Empty], Ends::Absent),
+        (1, [Empty, Empty, Silence, Empty], Ends::Absent),
         (
-            b"xx..",
+            1,
+            [Silence, Silence, Empty, Empty],
             Ends::Unanswered(&[(3, Miss::NoReply), (0, Miss::NoReply)]),
         ),
-        (b"tg1x", Ends::Buried(8)),
-        (b".g12AB", Ends::Found(&[(0, 0), (1, 1)])),
-        (b".g12xBC", Ends::Found(&[(1, 1), (2, 2)])),
-        (b".g12-BC", Ends::Found(&[(1, 1), (2, 2)])),
-        (b".g12ADC", Ends::Found(&[(0, 0), (2, 2)])),
-        (b".g12AEC", Ends::Found(&[(0, 0), (2, 2)])),
-        (b".g12AsC", Ends::Found(&[(0, 0), (2, 2)])),
-        (b"1g.x-B1g.xAB", Ends::Found(&[(0, 0), (1, 3)])),
-        (b".g...g..", Ends::TooFew(7, 1)),
-        (b".gx..gx.", Ends::Unanswered(&[(1, Miss::NoReply)])),
-        (b".g1.xB.g1.xB", Ends::Unanswered(&[(0, Miss::NoReply)])),
-        (b"a...b...c...d...e...f...g...h...", Ends::Overtaken(8)),
+        (1, [Tombstone(8), FIRST, SECOND, Silence], Ends::Buried(8)),
+        (2, [Empty, FIRST, Empty, Empty], Ends::TooFew(7, 1)),
+        (
+            2,
+            [Empty, FIRST, Silence, Empty],
+            Ends::Unanswered(&[(1, Miss::NoReply)]),
+        ),
     ];
-    for (letters, end) in cases {
+    for (rounds, answers, end) in cases {
         let mut op = begun(alloc)?;
-        assert_eq!(rt; driven(alloc, &mut op, letters)?, letters.len());
+        assert_eq!(rt; driven(alloc, &mut op, rounds, &answers)?, 4);
         assert!(rt; op.ended());
         assert!(rt; end.is(op.end()));
     }
+    Ok(())
+}
+
+#[test]
+fn ends_by_the_archives(rt: HostRuntime) -> Result<(), Fail> {
+    let alloc = rt.alloc();
+    let cases: [(u32, [Answer; 4], &[Answer], Ends); 7] = [
+        (
+            1,
+            WHOLE,
+            &[Archive(7, 0), Archive(7, 1)],
+            Ends::Found(&[(0, 0), (1, 1)]),
+        ),
+        (
+            1,
+            WHOLE,
+            &[Silence, Archive(7, 1), Archive(7, 2)],
+            Ends::Found(&[(1, 1), (2, 2)]),
+        ),
+        (
+            1,
+            WHOLE,
+            &[Gone, Archive(7, 1), Archive(7, 2)],
+            Ends::Found(&[(1, 1), (2, 2)]),
+        ),
+        (
+            1,
+            WHOLE,
+            &[Archive(7, 0), Other(7, 1), Archive(7, 2)],
+            Ends::Found(&[(0, 0), (2, 2)]),
+        ),
+        (
+            1,
+            WHOLE,
+            &[Archive(7, 0), Archive(8, 1), Archive(7, 2)],
+            Ends::Found(&[(0, 0), (2, 2)]),
+        ),
+        (
+            1,
+            WHOLE,
+            &[Archive(7, 0), Damaged, Archive(7, 2)],
+            Ends::Found(&[(0, 0), (2, 2)]),
+        ),
+        (
+            2,
+            [Empty, FIRST, SECOND, Empty],
+            &[Silence, Archive(7, 1)],
+            Ends::Unanswered(&[(0, Miss::NoReply)]),
+        ),
+    ];
+    for (rounds, lists, archives, end) in cases {
+        let mut answers = Vec::from_slice(alloc, &lists)?;
+        answers.extend_from_slice(archives)?;
+        let mut op = begun(alloc)?;
+        assert_eq!(rt; driven(alloc, &mut op, rounds, &answers)?, answers.len());
+        assert!(rt; op.ended());
+        assert!(rt; end.is(op.end()));
+    }
+    Ok(())
+}
+
+#[test]
+fn goes_round_again(rt: HostRuntime) -> Result<(), Fail> {
+    let alloc = rt.alloc();
+    let mut op = begun(alloc)?;
+    let first = [SECOND, FIRST, Empty, Silence, Gone, Archive(7, 1)];
+    let again = [SECOND, FIRST, Empty, Silence, Archive(7, 0), Archive(7, 1)];
+    for one in first.iter().chain(&again) {
+        let sent = op.next()?.ok_or("no message")?;
+        give(&mut op, sent.ticket, one.reply(alloc)?);
+    }
+    assert!(rt; op.next()?.is_none());
+    assert!(rt; Ends::Found(&[(0, 0), (1, 3)]).is(op.end()));
+    Ok(())
+}
+
+#[test]
+fn is_overtaken_in_eight_rounds(rt: HostRuntime) -> Result<(), Fail> {
+    let alloc = rt.alloc();
+    let mut op = begun(alloc)?;
+    for units in 1..9u64 {
+        for one in [Durable(units, 0), Empty, Empty, Empty] {
+            let sent = op.next()?.ok_or("no message")?;
+            give(&mut op, sent.ticket, one.reply(alloc)?);
+        }
+    }
+    assert!(rt; op.next()?.is_none());
+    assert!(rt; Ends::Overtaken(8).is(op.end()));
     Ok(())
 }
 
@@ -177,20 +292,20 @@ fn waits_for_its_answers(rt: HostRuntime) -> Result<(), Fail> {
     let sent = op.next()?.ok_or("no message")?;
     assert_eq!(rt; (sent.ticket, sent.device), (0, 3));
     assert!(rt; op.next()?.is_none());
-    answer(&mut op, 9, reply(alloc, b'g')?);
-    answer(&mut op, 0, reply(alloc, b'.')?);
-    answer(&mut op, 0, reply(alloc, b'g')?);
+    give(&mut op, 9, Durable(7, 0).reply(alloc)?);
+    give(&mut op, 0, Empty.reply(alloc)?);
+    give(&mut op, 0, Durable(7, 0).reply(alloc)?);
     for device in 0..3u16 {
         let sent = op.next()?.ok_or("no message")?;
         assert_eq!(rt; (sent.ticket, sent.device), (u64::from(device) + 1, device));
     }
     assert!(rt; op.next()?.is_none());
-    answer(&mut op, 3, None);
-    answer(&mut op, 1, reply(alloc, b'.')?);
+    give(&mut op, 3, None);
+    give(&mut op, 1, Empty.reply(alloc)?);
     assert!(rt; op.next()?.is_none());
     assert_eq!(rt; op.ended(), false);
     assert!(rt; op.end().is_none());
-    answer(&mut op, 2, None);
+    give(&mut op, 2, None);
     assert!(rt; op.next()?.is_none());
     assert!(rt; Ends::Unanswered(&[(2, Miss::NoReply), (1, Miss::NoReply)]).is(op.end()));
     Ok(())

@@ -47,11 +47,12 @@ module _ (sent : Sent) (answer : Option Reply) (past : List Step) where
       → ((other : ClusterModel) (known : Learnt) → of ≡ Some other → before ≡ Some known → HasOwn own known × AreKnown cluster known past)
       → (other : ClusterModel) (known : Learnt) → of ≡ Some other → after ≡ Some known → HasOwn own known × AreKnown cluster known (Told sent answer ∷ Gave sent ∷ past)
   known_more cluster own of None after learns same had other known is tells = absurd (none-some known (sym learns ∙ tells))
-  known_more cluster own of (Some before) None learns same had other known is tells = absurd (none-some known tells)
-  known_more cluster own of (Some before) (Some after) learns same had other known is tells =
-      let first = had other before is refl in
+  known_more cluster own None (Some before) after learns same had other known is tells = absurd learns
+  known_more cluster own (Some of) (Some before) None learns same had other known is tells = absurd learns
+  known_more cluster own (Some of) (Some before) (Some after) learns same had other known is tells =
+      let first = had of before refl refl in
       subst (λ (one : Learnt). HasOwn own one × AreKnown cluster one (Told sent answer ∷ Gave sent ∷ past)) (same_Some after known tells)
-      (own_kept before after learns.0 own first.0, (rw (same other is) (learns.1 other is), known_kept before after learns.0 cluster past first.1))
+      (own_kept before after learns.0 own first.0, (rw (same of refl) learns.1, known_kept before after learns.0 cluster past first.1))
 
   may_run_more : (cluster : ClusterModel) (own : Own) (of of' : Option ClusterModel) (before after : Option Learnt) → of' ≡ of → Learns of before after sent.device sent.msg answer
       → MayRun cluster own past of before → MayRun cluster own (Told sent answer ∷ Gave sent ∷ past) of' after

@@ -1,5 +1,7 @@
--- The greatest of floors: how those of a listing come to it one by one, and that none of the floors is above it.
-use Rattle.std.proofs.Common.{◌≡◌, inl, inr, ⊎_elim, ℕ, ◌+◌, ◌<◌, Bool, true, false, not, ◌&&◌, cond, eqb, ltb, Contains, List, [], ◌∷◌, ◌++◌, append-nil, append_assoc, length, get_or, map, take, Option, Some, None, refl, sym, ap, subst, ◌∙◌, arith}
+-- The greatest of floors: how those of a listing come to it one by one, that none of the floors is above it, and that it is the one before
+-- them or their own.
+use Rattle.std.proofs.Common.{◌≡◌, inl, inr, ◌⊎◌, ⊎_elim, ℕ, ◌+◌, ◌<◌, Bool, true, false, not, ◌&&◌, ◌||◌, cond, eqb, ltb, nat_lt, ◌==◌, Contains, List, [], ◌∷◌, ◌++◌, append-nil, append_assoc, length, get_or, map, take, Option, Some, None, refl, sym, ap, subst, ◌∙◌, arith}
+use Rattle.std.specs.Prelude.{if◌then◌else◌}
 use Rattle.std.specs.List.{filter}
 use Rattle.std.proofs.lemmas.Bool.{and_parts, cases_Bool, cond-false, cond-true, eqb-true, ltb-true, or_cases}
 use Rattle.std.proofs.lemmas.Bool.Decides.{nat_tests}
@@ -58,7 +60,7 @@ durable : (kind : FloorKind) → not (is_tombstone kind) ≡ true → kind ≡ D
 durable Durable is = refl
 durable Tombstone is = absurd (cc)
 
-above : (a b : Floor) → is_above a b ≡ true → IsAbove a b
+pub above : (a b : Floor) → is_above a b ≡ true → IsAbove a b
 above a b is = elim (or_cases (ltb b.stamp a.stamp) (eqb a.stamp b.stamp && (is_tombstone a.kind && not (is_tombstone b.kind))) is) [
   | inl less ↦ inl (ltb-true b.stamp a.stamp less)
   | inr rest ↦
@@ -67,7 +69,7 @@ above a b is = elim (or_cases (ltb b.stamp a.stamp) (eqb a.stamp b.stamp && (is_
       inr (eqb-true a.stamp b.stamp level.0, tombstone a.kind alone.0, durable b.kind alone.1)
 ]
 
-not_above : (a b : Floor) → is_above a b ≡ false → IsAbove a b → ⊥
+pub not_above : (a b : Floor) → is_above a b ≡ false → IsAbove a b → ⊥
 not_above a b is (inl less) = grind (arith, nat_tests)
 not_above a b is (inr level) =
     let first : is_tombstone a.kind ≡ true = ap is_tombstone level.1 in
@@ -115,3 +117,54 @@ highest_of_both seen best (floor ∷ floors) highest = subst (λ all. IsHighest 
 
 pub is_highest : (floors : List Floor) → IsHighest floors (highest floors)
 is_highest floors = highest_of_both [] None floors refl
+
+-- ---- from one before them
+
+-- what is above one, where another isn't, is above that other
+by_parts : (a b c : ℕ) (one two three : Bool) → (nat_lt b a || (a == b && (one && not two))) ≡ true → (nat_lt b c || (c == b && (three && not two))) ≡ false
+    → (nat_lt c a || (a == c && (one && not three))) ≡ true
+by_parts a b c one two three above lower = grind (arith, nat_tests)
+
+pub above_lower : (a b c : Floor) → is_above a b ≡ true → is_above c b ≡ false → is_above a c ≡ true
+above_lower a b c = by_parts a.stamp b.stamp c.stamp (is_tombstone a.kind) (is_tombstone b.kind) (is_tombstone c.kind)
+
+abbrev floor_of : ℕ → FloorKind → Floor
+floor_of stamp kind = record { stamp = stamp; kind = kind }
+
+-- of two floors, where neither is above the other, each is the other
+by_kind : (m n : ℕ) (k l : FloorKind) → (nat_lt n m || (m == n && (is_tombstone k && not (is_tombstone l)))) ≡ false → (nat_lt m n || (n == m && (is_tombstone l && not (is_tombstone k)))) ≡ false
+    → floor_of m k ≡ floor_of n l
+by_kind m n Durable Durable one other = let same : m ≡ n = grind (arith, nat_tests) in ap (λ stamp. floor_of stamp Durable) same
+by_kind m n Tombstone Tombstone one other = let same : m ≡ n = grind (arith, nat_tests) in ap (λ stamp. floor_of stamp Tombstone) same
+by_kind m n Durable Tombstone one other = absurd (grind (arith, nat_tests))
+by_kind m n Tombstone Durable one other = absurd (grind (arith, nat_tests))
+
+pub neither_above : (a b : Floor) → is_above a b ≡ false → is_above b a ≡ false → a ≡ b
+neither_above a b = by_kind a.stamp b.stamp a.kind b.kind
+
+-- where another isn't above it, the greatest is it, or the greatest from that other
+from_lower : (best other : Floor) (floors : List Floor) → is_above other best ≡ false
+    → (highest_from (Some best) floors ≡ Some best) ⊎ (highest_from (Some best) floors ≡ highest_from (Some other) floors)
+from_lower best other [] lower = inl refl
+from_lower best other (floor ∷ floors) lower = elim (cases_Bool (is_above floor best)) [
+  | inl is ↦ inr (first is ∙ sym (ap (λ b. highest_from (Some (if b then floor else other)) floors) (above_lower floor best other is lower)))
+  | inr is ↦ elim (from_lower best (higher (Some other) floor) floors (still is (is_above floor other))) [ inl same ↦ inl (first is ∙ same) | inr same ↦ inr (first is ∙ same) ]
+]
+  where
+    first : {b : Bool} → is_above floor best ≡ b → highest_from (Some (higher (Some best) floor)) floors ≡ highest_from (Some (if b then floor else best)) floors
+    first is = ap (λ b. highest_from (Some (if b then floor else best)) floors) is
+
+    still : is_above floor best ≡ false → (b : Bool) → is_above (if b then floor else other) best ≡ false
+    still is true = is
+    still is false = lower
+
+pub highest_either : (best : Option Floor) (floors : List Floor) → (highest_from best floors ≡ best) ⊎ (highest_from best floors ≡ highest floors)
+highest_either None floors = inr refl
+highest_either (Some best) [] = inl refl
+highest_either (Some best) (floor ∷ floors) = elim (cases_Bool (is_above floor best)) [
+  | inl is ↦ inr (first is)
+  | inr is ↦ elim (from_lower best floor floors is) [ inl same ↦ inl (first is ∙ same) | inr same ↦ inr (first is ∙ same) ]
+]
+  where
+    first : {b : Bool} → is_above floor best ≡ b → highest_from (Some (higher (Some best) floor)) floors ≡ highest_from (Some (if b then floor else best)) floors
+    first is = ap (λ b. highest_from (Some (if b then floor else best)) floors) is

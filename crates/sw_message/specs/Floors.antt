@@ -41,8 +41,11 @@ abbrev pub IsHighest : List Floor → Option Floor → Type 0
 IsHighest floors None = floors ≡ []
 IsHighest floors (Some floor) = Contains floors floor × ((other : Floor) → Contains floors other → IsAbove other floor → ⊥)
 
+abbrev pub durable_at : ℕ → Floor
+durable_at stamp = record { stamp = stamp; kind = Durable }
+
 abbrev pub durable_floor : Entry → Floor
-durable_floor entry = record { stamp = entry.stamp; kind = Durable }
+durable_floor entry = durable_at entry.stamp
 
 abbrev pub tombstone_floor : ℕ → Floor
 tombstone_floor stamp = record { stamp = stamp; kind = Tombstone }

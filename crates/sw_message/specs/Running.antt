@@ -1,5 +1,5 @@
 -- Operations over a link: what is to be known before one goes on, and what the calls of the link are.
-use Rattle.std.specs.Prelude.{◌≡◌, ◌≤◌, ℕ, List, [], ◌∷◌, Contains, Option, Some, None, IsSome, ⊤}
+use Rattle.std.specs.Prelude.{◌≡◌, ◌≤◌, ℕ, List, [], ◌∷◌, Contains, Option, Some, None, IsSome}
 use Rattle.sw_words.specs.Counts.{Rose}
 use Rattle.sw_types.specs.Name.{NameModel}
 use Rattle.sw_types.specs.Object.{ObjectModel}
@@ -15,11 +15,12 @@ pub record IsOf (cluster : ClusterModel) (device : ℕ) (msg : Msg) : Type 0 whe
   pub member : IsMember cluster device
   pub place : IsPlaceOf cluster (place_in msg)
 
--- What a link has learnt by a call, where it tells; it may stop telling.
+-- What a link has learnt by a call, where it tells. A link that tells has a cluster, and goes on telling.
 abbrev pub Learns : Option ClusterModel → Option Learnt → Option Learnt → ℕ → Msg → Option Reply → Type 0
 Learns of None after device msg answer = after ≡ None
-Learns of (Some before) None device msg answer = ⊤
-Learns of (Some before) (Some after) device msg answer = Keeps before after × ((cluster : ClusterModel) → of ≡ Some cluster → KnowsReply cluster after device msg answer)
+Learns None (Some before) after device msg answer = ⊥
+Learns (Some cluster) (Some before) None device msg answer = ⊥
+Learns (Some cluster) (Some before) (Some after) device msg answer = Keeps before after × KnowsReply cluster after device msg answer
 
 -- a message is lost only where the count of losses rose
 pub record CountsLoss (before after : ℕ) (answer : Option Reply) : Type 0 where
@@ -49,8 +50,8 @@ abbrev pub LearnsOwn : Learnt → NameModel → Option ObjectModel → ℕ → T
 LearnsOwn learnt name None stamp = Contains learnt.marks (record { stamp = stamp; name = name })
 LearnsOwn learnt name (Some object) stamp = Contains learnt.book (record { stamp = stamp; name = name; object = object })
 
--- What a link has learnt by a draw, where it tells; it may stop telling.
+-- What a link has learnt by a draw, where it tells; a link that tells goes on telling.
 abbrev pub Draws : Option Learnt → Option Learnt → NameModel → Option ObjectModel → ℕ → Type 0
 Draws None after name object stamp = after ≡ None
-Draws (Some before) None name object stamp = ⊤
+Draws (Some before) None name object stamp = ⊥
 Draws (Some before) (Some after) name object stamp = Keeps before after × LearnsOwn after name object stamp

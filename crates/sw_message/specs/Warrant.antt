@@ -9,7 +9,7 @@ use Rattle.sw_hashdir.specs.declared.floor.FloorKind.TheVariants as kind
 use Rattle.sw_archive.specs.Put.{put_archive}
 use Rattle.sw_ring.specs.Cluster.{ClusterModel, column_of, place_of_name}
 use Rattle.sw_message.specs.Learnt.{Booked, Heard, Learnt, Marked}
-use Rattle.sw_message.specs.Message.{is_primary, place_in}
+use Rattle.sw_message.specs.Message.{IsMember, is_primary, place_in}
 use Rattle.sw_message.specs.declared.message.Msg.{Msg}
 use Rattle.sw_message.specs.declared.message.Msg.TheVariants as message
 use Rattle.sw_message.specs.declared.reply.Reply.{Reply}
@@ -21,9 +21,9 @@ use Rattle.sw_message.specs.declared.target.Target.{Target}
 abbrev pub IsPrimaryOf : ClusterModel → PlaceModel → (index device : ℕ) → Type 0
 IsPrimaryOf cluster place index device = slice_get (column_of cluster place.part) index ≡ Some device
 
--- the device is the primary of the index, or a handoff of the place
+-- the device is the primary of the index, or a handoff of the place: a device of the cluster that is no primary of it
 abbrev pub IsHome : ClusterModel → PlaceModel → Target → Type 0
-IsHome cluster place target = IsPrimaryOf cluster place target.index target.device ⊎ (is_primary cluster target.device place ≡ false)
+IsHome cluster place target = IsPrimaryOf cluster place target.index target.device ⊎ (IsMember cluster target.device × (is_primary cluster target.device place ≡ false) × (target.index < cluster.policy.k + cluster.policy.m))
 
 -- ---- what a reply shows
 

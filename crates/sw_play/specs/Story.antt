@@ -55,7 +55,8 @@ abbrev pub IsOfName : Event → NameModel → Type 0
 IsOfName told name = (told ≡ event.Run (job.Get name)) ⊎ (told ≡ event.Run (job.Head name))
 
 -- Where the end of a get is told that found an object, the object was put under the get's name at that stamp: the put is one of the
--- world's. Its sources have k different indices and sent this get the archives of that put, and an answer to it showed the stamp durable.
+-- world's. Its sources have k different indices and sent this get the archives of that put, and the stamp is a durable floor that an answer
+-- to it showed, the greatest that was shown once every device had answered.
 abbrev pub TellsOnePut : ClusterModel → World → Done → Type 0
 TellsOnePut cluster world done = (line : EndLine) → Contains done.told.ends line → IfFoundEnd line.end (λ stamp object sources.
     (name : NameModel) × IsOfName done.event name × IsPutFound (get_of cluster name) done.past (learnt_of world.book world.marks done.past) stamp object sources)

@@ -70,7 +70,7 @@ module _ (begun : Begun) (valid : IsBegun begun) where
       (All-weaker (λ (target : Target). (slice_get (primaries begun) target.index ≡ Some target.device) × (target.index < length (primaries begun))) (IsFit begun) primary-fit (targets_from 0 (primaries begun)) (primaries-each (primaries begun)))
       (replacements-each (IsFit begun) (λ (miss : Target × Miss). IsFit begun miss.0)
       (λ handoff. IsMember begun.cluster handoff × (is_among (column_of begun.cluster (place_of begun).part) handoff ≡ false))
-      (λ miss handoff fit known. record { home = inr known.1; member = known.0; below = fit.below }) misses (handoffs begun) all spare)
+      (λ miss handoff fit known. record { home = inr (known.0, known.1, fit.below); member = known.0; below = fit.below }) misses (handoffs begun) all spare)
 
   commits-enough : (past : List Step) → All (λ (target : Target). begun.cluster.policy.q ≤ length (done (stores past))) (commits_due begun past)
   commits-enough past =
