@@ -1,23 +1,27 @@
 -- What the ends of a get show.
 use Rattle.std.proofs.Common.{◌≡◌, inl, inr, ℕ, ◌+◌, ◌*◌, ◌==◌, ◌<◌, ◌≤◌, false, ◌||◌, Contains, ◌++◌, List, [], ◌∷◌, length, length-append, nat_lt, Option, Some, None, refl, sym, ap, subst, ◌∙◌, arith}
+use Rattle.std.specs.List.{All}
 use Rattle.std.proofs.lemmas.Bool.{cases_Bool, ltb-false, ltb-true, or_parts}
 use Rattle.std.proofs.lemmas.Bool.Decides.{nat_tests}
+use Rattle.std.proofs.lemmas.List.Elements.{All-append, All-cons, All-nil, All-weaker}
 use Rattle.std.proofs.lemmas.Option.{none-some, same_Some}
 use Rattle.sw_words.proofs.Rules.{kept}
 use Rattle.sw_types.specs.Policy.{PolicyModel, greatest_total, policy_fault}
 use Rattle.sw_types.specs.declared.policy.PolicyFault.TheVariants.{C, K, M, N, Q}
 use Rattle.sw_hashdir.specs.declared.floor.Floor.{Floor}
 use Rattle.sw_hashdir.specs.declared.floor.FloorKind.TheVariants.{Durable}
+use Rattle.sw_ring.proofs.Among.{Contains-cons}
 use Rattle.sw_message.specs.Floors.{IsHighest, floors_in, tombstone_floor}
 use Rattle.sw_message.specs.Transcript.{IsRun, Step}
 use Rattle.sw_message.specs.declared.message.Msg.{Msg}
 use Rattle.sw_message.specs.declared.message.Msg.TheVariants as message
 use Rattle.sw_message.specs.declared.miss.Miss.{Miss}
+use Rattle.sw_message.specs.declared.sent.Sent.{Sent}
 use Rattle.sw_message.proofs.Highest.{is_highest}
-use Rattle.sw_get.specs.Causes.{IsAbsent, IsBuried, IsOvertaken, IsTooFew, IsUnanswered, LastRound, LeavesUnanswered}
+use Rattle.sw_get.specs.Causes.{IsAbsent, IsBuried, IsOvertaken, IsTooFew, IsUnanswered, LastRound, LeavesUnanswered, WasMissed}
 use Rattle.sw_get.specs.Get.{AreTurns, Begun, EndsAfter, Hears, IsBegun, IsEnd, IsNext, Sends, Turn, devices, events, facts_in, facts_of, failing, floors_shown, from_in, going_in, missing, most_kept, round_in, source_of}
 use Rattle.sw_get.specs.Meaning.{Brings, Lacks, Lists, Meaning, Misses}
-use Rattle.sw_get.specs.Round.{Facts, all_devices, target_of}
+use Rattle.sw_get.specs.Round.{Facts, target_of}
 use Rattle.sw_get.specs.declared.end.GetEnd.TheVariants as gets
 use Rattle.sw_get.specs.declared.round_end.Going.{Going}
 use Rattle.sw_get.specs.declared.round_end.Going.TheVariants as going
@@ -25,11 +29,11 @@ use Rattle.sw_get.specs.declared.round_end.KeptEvent.{KeptEvent}
 use Rattle.sw_get.specs.declared.round_end.RoundEnd.TheVariants as round
 use Rattle.sw_get.proofs.Goings.{AreAllHeard, AreFetched, GoingSays, LeavesNone, SomeMissed}
 use Rattle.sw_get.proofs.Indices.{are_indices, first_indices}
-use Rattle.sw_get.proofs.Kept.{all_answered, count_indices, kept_now, level_so, wanting_so, were_kept}
+use Rattle.sw_get.proofs.Kept.{all_answered, count_indices, kept_now, level_so, nothing_open, wanting_so, were_kept}
 use Rattle.sw_get.proofs.Lists.{here}
-use Rattle.sw_get.proofs.Missed.{all_missed}
 use Rattle.sw_get.proofs.Runs.{Keeps, all_kept, says as going_known}
-use Rattle.sw_get.proofs.Shown.{IsTold, all_told, parts, shown_among, target_shown}
+use Rattle.sw_get.proofs.Says.{are_heard}
+use Rattle.sw_get.proofs.Shown.{shown_among, target_shown}
 
 -- ---- misses of a round
 
@@ -72,6 +76,23 @@ failed_few (Hears sent meaning ∷ turns) =
       length-append (facts_of turns).failed (failing sent.device sent.msg meaning),
       length-append (facts_of turns).misses (missing sent.device meaning),
     )
+
+missed_more : (turns : List Turn) (turn : Turn) (one : ℕ × Miss) → WasMissed turns one → WasMissed (turn ∷ turns) one
+missed_more turns turn one is = (is.0, Contains-cons (Hears is.0 (Misses one.1)) turn turns is.1, is.2)
+
+missed_now : (turns : List Turn) (sent : Sent) (meaning : Meaning) → All (WasMissed (Hears sent meaning ∷ turns)) (missing sent.device meaning)
+missed_now turns sent (Lists listing) = All-nil (WasMissed (Hears sent (Lists listing) ∷ turns))
+missed_now turns sent (Lacks listing) = All-nil (WasMissed (Hears sent (Lacks listing) ∷ turns))
+missed_now turns sent (Brings archive) = All-nil (WasMissed (Hears sent (Brings archive) ∷ turns))
+missed_now turns sent (Misses how) =
+    All-cons (WasMissed (Hears sent (Misses how) ∷ turns)) (sent.device, how) [] (sent, here (Hears sent (Misses how)) turns, refl) (All-nil (WasMissed (Hears sent (Misses how) ∷ turns)))
+
+all_missed : (turns : List Turn) → All (WasMissed turns) (facts_of turns).misses
+all_missed [] = All-nil (WasMissed [])
+all_missed (Sends sent ∷ turns) = All-weaker (WasMissed turns) (WasMissed (Sends sent ∷ turns)) (missed_more turns (Sends sent)) (facts_of turns).misses (all_missed turns)
+all_missed (Hears sent meaning ∷ turns) =
+    All-append (WasMissed (Hears sent meaning ∷ turns)) (facts_of turns).misses (missing sent.device meaning)
+    (All-weaker (WasMissed turns) (WasMissed (Hears sent meaning ∷ turns)) (missed_more turns (Hears sent meaning)) (facts_of turns).misses (all_missed turns)) (missed_now turns sent meaning)
 
 -- a list that has nothing is empty
 nil_from_none : {A : Type 0} (xs : List A) → ((x : A) → Contains xs x → ⊥) → xs ≡ []
@@ -162,7 +183,13 @@ module _ (begun : Begun) (valid : IsBegun begun) (past : List Step) (run : IsRun
   says next goes = going_known begun valid past turns keeps next goes
 
   abbrev last_round : AreAllHeard (devices begun) facts → AreFetched begun.cluster.policy from facts → LastRound begun past
-  last_round heard fetched = record { turns = turns; are = are; all_answered = all_answered begun valid past run turns are heard fetched }
+  last_round heard fetched = record {
+    turns = turns;
+    are = are;
+    heard = are_heard begun past turns are;
+    closed = nothing_open begun valid past run turns are heard fetched;
+    all_answered = all_answered begun valid past run turns are heard fetched;
+  }
 
   -- nothing was fetched where the target is none, or a tombstone
   untried : ((to : Floor) → target_of from facts ≡ Some to → to.kind ≡ Durable → ⊥) → length facts.tried ≡ 0
@@ -215,12 +242,11 @@ module _ (begun : Begun) (valid : IsBegun begun) (past : List Step) (run : IsRun
   unanswered : going_in begun turns ≡ going.End round.Unanswered → IsUnanswered begun past facts.misses
   unanswered goes =
       let known = says (going.End round.Unanswered) goes in
-      let told = (parts (IsTold begun past) (length (all_devices (devices begun))) turns (all_told begun past turns are)).0 in
       record {
         last = last_round known.0 known.1;
         some = some_missed known.2.1;
         are = refl;
-        missed = all_missed begun past (round_in begun turns).turns told;
+        missed = all_missed (round_in begun turns).turns;
         why = why known.0 known.1 known.2.0;
       }
 
@@ -239,9 +265,8 @@ module _ (begun : Begun) (valid : IsBegun begun) (past : List Step) (run : IsRun
       }
 
   overtaken : (event : KeptEvent) → going_in begun turns ≡ going.Keep event → most_kept ≤ length (events begun turns) → IsOvertaken begun past (events begun turns ++ event ∷ [])
-  overtaken event goes many = record {
-    turns = turns;
-    are = are;
+  overtaken event goes many = let known = says (going.Keep event) goes in record {
+    last = last_round known.0 known.1;
     kept = kept_now begun valid past run turns are event goes (were_kept begun valid past run turns are);
     count = omega (arith, many, keeps.events_few, length-append (events begun turns) (event ∷ []));
   }

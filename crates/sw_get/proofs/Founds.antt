@@ -30,11 +30,12 @@ use Rattle.sw_get.specs.declared.round_end.Going.{Going}
 use Rattle.sw_get.specs.declared.round_end.Going.TheVariants as going
 use Rattle.sw_get.specs.declared.round_end.RoundEnd.TheVariants as round
 use Rattle.sw_get.proofs.Goings.{IsFound, of_kind}
-use Rattle.sw_get.proofs.Kept.{all_answered, target_so}
+use Rattle.sw_get.proofs.Kept.{all_answered, nothing_open, target_so}
 use Rattle.sw_get.proofs.Lists.{zip-weaker}
 use Rattle.sw_get.proofs.Members.{ascending-kept, with-kept}
 use Rattle.sw_get.proofs.Runs.{IsBrought, Keeps, all_kept, says}
 use Rattle.sw_get.proofs.Sameness.{turns_together}
+use Rattle.sw_get.proofs.Says.{are_heard}
 use Rattle.sw_get.proofs.Shown.{target_shown}
 
 -- ---- targets in order
@@ -270,5 +271,11 @@ found_put begun past learnt stamp object sources valid run book known_replies en
     let keeps = all_kept begun valid past run turns end.1 in
     let ends = ends_found begun turns stamp object sources (going_in begun turns) end.2 in
     let known = says begun valid past turns keeps (going.End (round.Found stamp)) ends.goes in
-    let last : LastRound begun past = record { turns = turns; are = end.1; all_answered = all_answered begun valid past run turns end.1 known.0 known.1 } in
+    let last : LastRound begun past = record {
+      turns = turns;
+      are = end.1;
+      heard = are_heard begun past turns end.1;
+      closed = nothing_open begun valid past run turns end.1 known.0 known.1;
+      all_answered = all_answered begun valid past run turns end.1 known.0 known.1;
+    } in
     subst (IsPutFound begun past learnt stamp object) (sym ends.sources_are) (put_found begun valid past learnt book known_replies turns end.1 keeps last refl stamp known.2 object ends.is)

@@ -35,7 +35,7 @@ use Rattle.sw_get.proofs.Goings.{AllTried, AreAllHeard, AreFetched, FewListed, K
 use Rattle.sw_get.proofs.Indices.{are_indices, first_indices, in_candidates}
 use Rattle.sw_get.proofs.Lists.{first_or_later, here, in_filter}
 use Rattle.sw_get.proofs.Meanings.{never_lists}
-use Rattle.sw_get.proofs.Rounds.{WasAsked, WasFetched, all_handed, all_heard, handed_so, sents}
+use Rattle.sw_get.proofs.Rounds.{WasAsked, WasFetched, all_handed, all_heard, handed_so, sends_of, sents}
 use Rattle.sw_get.proofs.Runs.{IsGoneOf, Keeps, all_kept, says}
 use Rattle.sw_get.proofs.Shown.{IsTold, all_told, parts}
 use Rattle.sw_get.proofs.Turns.{all, now}
@@ -181,7 +181,7 @@ module _ (begun : Begun) (valid : IsBegun begun) (past : List Step) (run : IsRun
   keeps : Keeps begun past turns
   keeps = all_kept begun valid past run turns are
 
-  nothing_open : opens past ≡ []
+  pub nothing_open : opens past ≡ []
   nothing_open = none_open begun (from_in begun turns) known (opens past) keeps.counted keeps.within heard_all fetched
 
   each_heard : All (λ (sent : Sent). (meaning : Meaning) × Contains (now begun turns) (Hears sent meaning)) (sents (now begun turns))
@@ -208,7 +208,7 @@ module _ (begun : Begun) (valid : IsBegun begun) (past : List Step) (run : IsRun
         each = λ device member.
             let was = All-contains (WasAsked begun (now begun turns)) (take known.asked (all_devices (devices begun))) device (all_handed begun valid past run turns are).asked (subst (λ these. Contains these device) (sym whole) (member_asked device member)) in
             let meant = All-contains (λ (sent : Sent). (meaning : Meaning) × Contains (now begun turns) (Hears sent meaning)) (sents (now begun turns)) (ask_message begun was.0 device) each_heard was.1 in
-            record { ticket = was.0; meaning = meant.0; heard = meant.1 };
+            record { ticket = was.0; sent = sends_of (now begun turns) (ask_message begun was.0 device) was.1; meaning = meant.0; heard = meant.1 };
       }
 
   -- an archive that was fetched was brought, or lost

@@ -14,12 +14,12 @@ pub mod Lists
 pub mod Mailboxes
 pub mod Meanings
 pub mod Members
-pub mod Missed
 pub mod Readings
 pub mod Replies
 pub mod Results
 pub mod Rounds
 pub mod Runs
 pub mod Sameness
+pub mod Says
 pub mod Shown
 pub mod Turns

@@ -32,6 +32,14 @@ sents [] = []
 sents (Sends sent ∷ turns) = sent ∷ sents turns
 sents (Hears sent meaning ∷ turns) = sents turns
 
+pub sends_of : (turns : List Turn) (sent : Sent) → Contains (sents turns) sent → Contains turns (Sends sent)
+sends_of [] sent has = absurd (omega (arith, has.1))
+sends_of (Sends one ∷ turns) sent has = elim (first_or_later one (sents turns) sent has) [
+  | inl same ↦ subst (λ (s : Sent). Contains (Sends one ∷ turns) (Sends s)) same (here (Sends one) turns)
+  | inr later ↦ Contains-cons (Sends sent) (Sends one) turns (sends_of turns sent later)
+]
+sends_of (Hears one meaning ∷ turns) sent has = Contains-cons (Sends sent) (Hears one meaning) turns (sends_of turns sent has)
+
 -- ---- each is open or was heard
 
 abbrev IsSettled : List Sent → List Turn → Sent → Type 0

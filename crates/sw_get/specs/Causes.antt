@@ -1,4 +1,4 @@
--- What the ends of a get show, in words of their own: of the rules they take the rounds, and what was handed out in them.
+-- What the ends of a get show, in words of their own: of the rules they take the rounds, and which facts are gathered in one.
 use Rattle.std.specs.Prelude.{◌≡◌, ◌≢◌, ◌⊎◌, ◌↔◌, ℕ, ◌+◌, ◌<◌, ◌≤◌, Bool, List, [], ◌∷◌, ◌++◌, flat_map, length, reverse, Contains, Option, Some, None, ⊤}
 use Rattle.std.specs.List.{All, AllPairs}
 use Rattle.sw_types.specs.Object.{IsObject, ObjectModel}
@@ -6,12 +6,14 @@ use Rattle.sw_types.specs.Policy.{PolicyModel}
 use Rattle.sw_hashdir.specs.Directory.{IsAbove}
 use Rattle.sw_hashdir.specs.Listing.{ListingModel}
 use Rattle.sw_hashdir.specs.declared.floor.Floor.{Floor}
+use Rattle.sw_archive.specs.Archive.{ArchiveModel, IsArchive}
 use Rattle.sw_archive.specs.Put.{put_archive}
 use Rattle.sw_message.specs.Floors.{IsHighest, durable_at, floors_in, tombstone_floor}
 use Rattle.sw_message.specs.Learnt.{Booked, Learnt}
 use Rattle.sw_message.specs.Message.{IsMember}
 use Rattle.sw_message.specs.Miss.{miss_of}
-use Rattle.sw_message.specs.Transcript.{Step, Told}
+use Rattle.sw_message.specs.Spoil.{IsAsked, IsNamed, IsSpoilOf}
+use Rattle.sw_message.specs.Transcript.{Gave, Step, Told, opens}
 use Rattle.sw_message.specs.declared.message.Msg.{Msg}
 use Rattle.sw_message.specs.declared.message.Msg.TheVariants as message
 use Rattle.sw_message.specs.declared.miss.Miss.{Miss}
@@ -19,10 +21,12 @@ use Rattle.sw_message.specs.declared.miss.Miss.TheVariants as miss
 use Rattle.sw_message.specs.declared.reply.Reply.{Reply}
 use Rattle.sw_message.specs.declared.reply.Reply.TheVariants as reply
 use Rattle.sw_message.specs.declared.sent.Sent.{Sent}
+use Rattle.sw_message.specs.declared.spoil.Foreign.TheVariants as foreign
 use Rattle.sw_message.specs.declared.spoil.Spoil.{Spoil}
+use Rattle.sw_message.specs.declared.spoil.Spoil.TheVariants as spoil
 use Rattle.sw_message.specs.declared.target.Target.{Target}
-use Rattle.sw_get.specs.Get.{AreTurns, Begun, Hears, Turn, ask_message, devices, facts_in, fetch_message, floors_shown, round_in}
-use Rattle.sw_get.specs.Meaning.{Lacks, Meaning, Misses}
+use Rattle.sw_get.specs.Get.{AreTurns, Begun, Hears, Sends, Turn, ask_message, devices, facts_in, fetch_message, floors_shown, round_in}
+use Rattle.sw_get.specs.Meaning.{Brings, Lacks, Lists, Meaning, Misses, Strays}
 use Rattle.sw_get.specs.Round.{all_devices}
 use Rattle.sw_get.specs.declared.round_end.KeptEvent.{KeptEvent}
 use Rattle.sw_get.specs.declared.round_end.KeptEvent.TheVariants.{Gone, Rose}
@@ -53,14 +57,38 @@ pub record HasFloor (past : List Step) (floor : Floor) : Type 0 where
   pub shown : IsShown past listing
   pub greatest : IsHighest (floors_in listing) (Some floor)
 
--- Why an answer to a message is a miss: it was given up, the bytes that were fetched are spoiled, or the reply says so or does not
+-- the bytes are the archive that a get asked for
+abbrev pub IsAskedFor : Begun → (stamp index : ℕ) → List ℕ → ArchiveModel → Type 0
+IsAskedFor begun stamp index bytes archive = IsArchive bytes archive × IsAsked (IsNamed begun.name) begun.cluster.policy stamp index archive
+
+-- they are not; or they are, and of another object than the archives that were brought before it in the round
+abbrev pub IsSpoilt : Begun → List ArchiveModel → (stamp index : ℕ) → List ℕ → Spoil → Type 0
+IsSpoilt begun others stamp index bytes (spoil.Foreign foreign.Object) = (archive : ArchiveModel) × IsAskedFor begun stamp index bytes archive × Strays begun.cluster.policy others archive
+IsSpoilt begun others stamp index bytes other = IsSpoilOf (IsNamed begun.name) begun.cluster.policy stamp index bytes other
+
+-- Why an answer to a message is a miss: it was given up, the bytes that were fetched are spoilt, or the reply says so or does not
 -- answer the message.
-abbrev pub IsMissOf : Msg → Option Reply → Miss → Type 0
-IsMissOf msg None how = how ≡ miss.NoReply
-IsMissOf (message.Ask place) (Some (reply.Held listing)) how = ⊥
-IsMissOf (message.Fetch place stamp index) (Some (reply.Gone listing)) how = ⊥
-IsMissOf (message.Fetch place stamp index) (Some (reply.Fragment bytes)) how = (spoil : Spoil) × (how ≡ miss.Spoiled spoil)
-IsMissOf msg (Some other) how = how ≡ miss_of other
+abbrev pub IsMissOf : Begun → List ArchiveModel → Msg → Option Reply → Miss → Type 0
+IsMissOf begun others msg None how = how ≡ miss.NoReply
+IsMissOf begun others (message.Ask place) (Some (reply.Held listing)) how = ⊥
+IsMissOf begun others (message.Fetch place stamp index) (Some (reply.Gone listing)) how = ⊥
+IsMissOf begun others (message.Fetch place stamp index) (Some (reply.Fragment bytes)) how = (why : Spoil) × (how ≡ miss.Spoiled why) × IsSpoilt begun others stamp index bytes why
+IsMissOf begun others msg (Some other) how = how ≡ miss_of other
+
+-- what an answer to a message says, beside the archives that were brought before it in the round
+abbrev pub Says : Begun → List ArchiveModel → Msg → Option Reply → Meaning → Type 0
+Says begun others (message.Ask place) (Some (reply.Held listing)) (Lists told) = listing ≡ told
+Says begun others (message.Fetch place stamp index) (Some (reply.Gone listing)) (Lacks told) = listing ≡ told
+Says begun others (message.Fetch place stamp index) (Some (reply.Fragment bytes)) (Brings archive) = IsAskedFor begun stamp index bytes archive
+Says begun others msg answer (Misses how) = IsMissOf begun others msg answer how
+Says begun others msg answer other = ⊥
+
+-- the turns of a transcript tell what its answers say
+abbrev pub AreHeard : Begun → List Step → List Turn → Type 0
+AreHeard begun [] [] = ⊤
+AreHeard begun (Gave sent ∷ past) (Sends same ∷ turns) = (same ≡ sent) × AreHeard begun past turns
+AreHeard begun (Told sent answer ∷ past) (Hears same meaning ∷ turns) = (same ≡ sent) × Says begun (facts_in begun turns).archives sent.msg answer meaning × AreHeard begun past turns
+AreHeard begun past turns = ⊥
 
 -- the source was asked for the archive of its index at the stamp, and sent the one of the put
 pub record IsSource (begun : Begun) (past : List Step) (stamp : ℕ) (object : ObjectModel) (source : Target) : Type 0 where
@@ -74,6 +102,7 @@ pub record IsSource (begun : Begun) (past : List Step) (stamp : ℕ) (object : O
 -- a device was asked in some turns, and answered or was given up
 pub record IsAnswered (begun : Begun) (turns : List Turn) (device : ℕ) : Type 0 where
   pub ticket : ℕ
+  pub sent : Contains turns (Sends (ask_message begun ticket device))
   pub meaning : Meaning
   pub heard : Contains turns (Hears (ask_message begun ticket device) meaning)
 
@@ -82,10 +111,12 @@ pub record AllAnswered (begun : Begun) (turns : List Turn) : Type 0 where
   pub each : (device : ℕ) → IsMember begun.cluster device → IsAnswered begun (round_in begun turns).turns device
   pub once : (facts_in begun turns).asked ≡ length (all_devices (devices begun))
 
--- the turns of a transcript, in whose last round every device answered or was given up
+-- the turns of a transcript, in whose last round every device answered or was given up, and after which no message is open
 pub record LastRound (begun : Begun) (past : List Step) : Type 0 where
   pub turns : List Turn
   pub are : AreTurns begun past turns
+  pub heard : AreHeard begun past turns
+  pub closed : opens past ≡ []
   pub all_answered : AllAnswered begun turns
 
 -- the floors that were shown before a round, and in it by answers to questions
@@ -176,14 +207,9 @@ pub record IsBuried (begun : Begun) (past : List Step) (stamp : ℕ) : Type 0 wh
   pub shown : HasFloor past (tombstone_floor stamp)
   pub greatest : (listing : ListingModel) (floor : Floor) → IsShown past listing → Contains (floors_in listing) floor → IsAbove floor (tombstone_floor stamp) → ⊥
 
--- a device missed in some turns: it was given up, or its reply was such a miss
-pub record WasMissed (past : List Step) (turns : List Turn) (one : ℕ × Miss) : Type 0 where
-  pub sent : Sent
-  pub answer : Option Reply
-  pub heard : Contains turns (Hears sent (Misses one.1))
-  pub told : Contains past (Told sent answer)
-  pub device : sent.device ≡ one.0
-  pub miss : IsMissOf sent.msg answer one.1
+-- a device missed in some turns
+abbrev pub WasMissed : List Turn → ℕ × Miss → Type 0
+WasMissed turns one = (sent : Sent) × Contains turns (Hears sent (Misses one.1)) × (sent.device ≡ one.0)
 
 -- Why a round ends a get as unanswered: no floor was shown, and c devices or more missed; or its target did not rise in it, and the
 -- archives of that are wanting.
@@ -195,7 +221,7 @@ pub record IsUnanswered (begun : Begun) (past : List Step) (misses : List (ℕ �
   pub last : LastRound begun past
   pub some : 0 < length misses
   pub are : misses ≡ (facts_in begun last.turns).misses
-  pub missed : All (WasMissed past (round_in begun last.turns).turns) misses
+  pub missed : All (WasMissed (round_in begun last.turns).turns) misses
   pub why : LeavesUnanswered begun last.turns
 
 -- Where too few were listed, no device missed in the last round, whose target is that stamp and did not rise, and which lists so many
@@ -242,7 +268,6 @@ AreKept begun past turns (event ∷ events) = AllAnswered begun turns × IsEvent
 
 -- Where it was overtaken, each of its rounds was kept as an event, eight in all.
 pub record IsOvertaken (begun : Begun) (past : List Step) (events : List KeptEvent) : Type 0 where
-  pub turns : List Turn
-  pub are : AreTurns begun past turns
-  pub kept : AreKept begun past turns (reverse events)
+  pub last : LastRound begun past
+  pub kept : AreKept begun past last.turns (reverse events)
   pub count : length events ≡ 8

@@ -3,7 +3,7 @@ use Rattle.std.proofs.Common.{◌≡◌, ℕ, ◌==◌, true, ◌++◌, List, []
 use Rattle.std.proofs.lemmas.Option.{none-some, same_Some}
 use Rattle.sw_ring.specs.Cluster.{ClusterModel}
 use Rattle.sw_message.specs.Learnt.{AreKnown, HasOwn, IsGenuine, Keeps, Learnt, Nothing, Own, OwnDelete, OwnPut}
-use Rattle.sw_message.specs.Running.{AreCalls, CountsLoss, Learns, MayRun}
+use Rattle.sw_message.specs.Running.{AreCalls, CountsLoss, Learns, MayRun, StillTells}
 use Rattle.sw_message.specs.Transcript.{Gave, Step, Told, opens, told}
 use Rattle.sw_message.specs.declared.link.Link as link
 use Rattle.sw_message.specs.declared.operation.Operation as operation
@@ -29,6 +29,18 @@ module _ (before after : Learnt) (keeps : Keeps before after) where
   known_kept cluster (Told sent None ∷ past) known = (tt, known_kept cluster past known.1)
   known_kept cluster (Told sent (Some given) ∷ past) known =
       ((λ other. keeps.heard _ (known.0.0 other), genuine_kept cluster given known.0.1), known_kept cluster past known.1)
+
+still_more : (sent : Sent) (answer : Option Reply) (of : Option ClusterModel) (first before after : Option Learnt) → Learns of before after sent.device sent.msg answer → StillTells first before → StillTells first after
+still_more sent answer of None None after learns still = learns
+still_more sent answer of (Some first) None after learns still = absurd still
+still_more sent answer None first (Some before) after learns still = absurd learns
+still_more sent answer (Some cluster) first (Some before) None learns still = absurd learns
+still_more sent answer (Some cluster) None (Some before) (Some after) learns still = absurd (none-some before (sym still))
+still_more sent answer (Some cluster) (Some first) (Some before) (Some after) learns still = record {
+  book = λ one has. learns.0.book one (still.book one has);
+  marks = λ one has. learns.0.marks one (still.marks one has);
+  heard = λ one has. learns.0.heard one (still.heard one has);
+}
 
 -- ---- a message and its answer
 
@@ -71,6 +83,7 @@ module _ {S T : Type 0} (P : operation.Ghosts S) (L : link.Ghosts T) where
     runs : (more : List Step) × AreCalls L.calls L.losses over more over' × ((begun : P.Begun) (past : List Step) → P.stands op begun past
         → MayRun (P.cluster begun) (P.own begun) past (L.cluster over) (L.learnt over)
         → P.stands op' begun (more ++ past) × MayRun (P.cluster begun) (P.own begun) (more ++ past) (L.cluster over') (L.learnt over'));
+    learns : StillTells (L.learnt over) (L.learnt over');
     cluster : L.cluster over' ≡ L.cluster over;
   }
 
@@ -99,5 +112,6 @@ module _ {S T : Type 0} (P : operation.Ghosts S) (L : link.Ghosts T) where
                 may_run_more sent answer (more ++ past) _ _ _ _ _ _ call.cluster call.learns now.1,
               ),
         );
+        learns = still_more sent answer _ _ _ _ call.learns ran.learns;
         cluster = call.cluster ∙ ran.cluster;
       }

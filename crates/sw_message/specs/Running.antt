@@ -22,6 +22,12 @@ Learns None (Some before) after device msg answer = ⊥
 Learns (Some cluster) (Some before) None device msg answer = ⊥
 Learns (Some cluster) (Some before) (Some after) device msg answer = Keeps before after × KnowsReply cluster after device msg answer
 
+-- a link that told what it had learnt tells still, and keeps that; one that told nothing tells nothing
+abbrev pub StillTells : Option Learnt → Option Learnt → Type 0
+StillTells None after = after ≡ None
+StillTells (Some before) None = ⊥
+StillTells (Some before) (Some after) = Keeps before after
+
 -- a message is lost only where the count of losses rose
 pub record CountsLoss (before after : ℕ) (answer : Option Reply) : Type 0 where
   pub never_falls : before ≤ after

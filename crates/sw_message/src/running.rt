@@ -1,7 +1,7 @@
 //! Operations over a link.
 
 ghost use Rattle.std.specs.Prelude.{◌≡◌, ◌++◌, List, OnOk, true};
-ghost use Rattle.sw_message.specs.Running.{AreCalls, MayRun};
+ghost use Rattle.sw_message.specs.Running.{AreCalls, MayRun, StillTells};
 ghost use Rattle.sw_message.specs.Transcript.{Over, Step};
 
 use crate::link::Link;
@@ -17,6 +17,7 @@ pub fn run<P: Operation, L: Link>(op: &mut P, link: &mut L) -> Result<(), NoMemo
         P.stands op.new begun (more ++ past) × MayRun (P.cluster begun) (P.own begun) (more ++ past) (L.cluster link.new) (L.learnt link.new)
         × OnOk result (P.machine begun (more ++ past) Over)) }
     ensures ended { OnOk result (P.has_ended op.new ≡ true) }
+    ensures learns { StillTells (L.learnt link.old) (L.learnt link.new) }
     ensures cluster { L.cluster link.new ≡ L.cluster link.old }
 {
     while let Some(sent) = op.next()? {
