@@ -1,0 +1,10 @@
+use Rattle.sw_recon.specs.declared.revert_end.RevertEnd.TheVariants.{Done, Unanswered}
+use Rattle.sw_recon.specs.declared.status.Status.TheVariants.{Ends}
+use Rattle.sw_recon.proofs.Known.{known}
+use Rattle.sw_recon.proofs.laws.revert_law.Goals as goal
+
+pub returns-clause-done : goal.returns-clause-done
+returns-clause-done c = λ begun past removed kept valid run is. known begun past (Ends (Done removed kept)) run is.1
+
+pub returns-clause-unanswered : goal.returns-clause-unanswered
+returns-clause-unanswered c = λ begun past device valid run is. known begun past (Ends (Unanswered device)) run is.1

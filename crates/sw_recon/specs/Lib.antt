@@ -1,0 +1,6 @@
+pub mod Causes
+pub mod Course
+pub mod CourseInside
+pub mod Inside
+pub mod Revert
+pub mod Standing
