@@ -1,8 +1,8 @@
 -- A listing or a refusal that covers an entry shows it durable, or a floor above it.
-use Rattle.std.proofs.Common.{◌≡◌, ◌⊎◌, inl, inr, ℕ, ◌==◌, ◌&&◌, ◌||◌, Bool, true, List, [], ◌∷◌, Contains, refl, sym, ap, subst, ◌∙◌, arith}
+use Rattle.std.proofs.Common.{◌≡◌, ◌⊎◌, inl, inr, ℕ, zero, suc, ◌==◌, ◌≤◌, ◌&&◌, ◌||◌, Bool, true, false, List, [], ◌∷◌, Contains, refl, sym, ap, subst, ◌∙◌, arith}
 use Rattle.std.specs.Prelude.{nat_le, nat_lt}
 use Rattle.std.specs.List.{list_any}
-use Rattle.std.proofs.lemmas.Bool.{and_parts, cases_Bool, cases_lt, eqb-true, leb-true, ltb-true, or_cases}
+use Rattle.std.proofs.lemmas.Bool.{and_parts, cases_Bool, cases_lt, eq-eqb, eqb-true, le-leb, leb-true, lt-ltb, ltb-true, or_cases}
 use Rattle.sw_hashpath.specs.Place.{PlaceModel}
 use Rattle.sw_hashdir.specs.Directory.{StandsAbove}
 use Rattle.sw_hashdir.specs.Listing.{ListingModel}
@@ -35,6 +35,51 @@ above_shown floor stamp is = elim (or_cases (nat_lt stamp floor.stamp) (floor.st
     tombstone_is : (of : FloorKind) → is_tombstone of ≡ true → of ≡ kind.Tombstone
     tombstone_is kind.Durable is = absurd (cc)
     tombstone_is kind.Tombstone is = refl
+
+any-passes : {A : Type 0} (test : A → Bool) (xs : List A) (x : A) → Contains xs x → test x ≡ true → list_any test xs ≡ true
+any-passes test [] x has is = absurd (omega (arith, has.1))
+any-passes test (first ∷ xs) x (zero, within, same) is = ap (λ b. b || list_any test xs) (ap test same ∙ is)
+any-passes test (first ∷ xs) x (suc i, within, same) is = by_test (test first) (any-passes test xs x (i, omega (arith, within), same) is)
+  where
+    by_test : (b : Bool) → list_any test xs ≡ true → (b || list_any test xs) ≡ true
+    by_test true later = refl
+    by_test false later = later
+
+either_true : (a b : Bool) → b ≡ true → (a || b) ≡ true
+either_true true b is = refl
+either_true false b is = is
+
+-- what a listing shows, it covers
+module _ (listing : ListingModel) (entry : Entry) where
+  abbrev of_entry : Entry → Bool
+  of_entry other = is_durable_one entry other || is_newer entry other
+
+  listed_covers : (other : Entry) → Contains listing.entries other → of_entry other ≡ true → covers listing entry ≡ true
+  listed_covers other has is = ap (λ b. b || list_any (λ stamp. nat_le entry.stamp stamp) listing.tombstones) (any-passes of_entry listing.entries other has is)
+
+  durable_covers : (shown : ListingModel) → listing ≡ shown → Contains shown.entries (record { stamp = entry.stamp; index = entry.index; durable = true }) → covers listing entry ≡ true
+  durable_covers shown same has =
+      let one : Entry = record { stamp = entry.stamp; index = entry.index; durable = true } in
+      let first = eq-eqb entry.stamp entry.stamp refl in
+      let second = eq-eqb entry.index entry.index refl in
+      listed_covers one (subst (λ (these : ListingModel). Contains these.entries one) (sym same) has) (rw (first, second) refl)
+
+  floor_covers : (shown : ListingModel) → listing ≡ shown → (floor : Floor) → ListsFloor shown entry.stamp floor → covers listing entry ≡ true
+  floor_covers shown same floor (inl less, inl (durable, index, has)) =
+      let one : Entry = record { stamp = floor.stamp; index = index; durable = true } in
+      listed_covers one (subst (λ (these : ListingModel). Contains these.entries one) (sym same) has) (either_true (is_durable_one entry one) (is_newer entry one) (lt-ltb entry.stamp floor.stamp less))
+  floor_covers shown same floor (inr level, inl (durable, index, has)) = absurd (cc (level.1, durable))
+  floor_covers shown same floor (above, inr (buried, has)) =
+      either_true (list_any of_entry listing.entries) (list_any (λ stamp. nat_le entry.stamp stamp) listing.tombstones)
+      (any-passes (λ stamp. nat_le entry.stamp stamp) listing.tombstones floor.stamp (subst (λ (these : ListingModel). Contains these.tombstones floor.stamp) (sym same) has) (le-leb entry.stamp floor.stamp (at_least above)))
+    where
+      at_least : StandsAbove floor entry.stamp → entry.stamp ≤ floor.stamp
+      at_least (inl less) = omega (arith, less)
+      at_least (inr level) = omega (arith, level.0)
+
+  pub shown_covers : (place : PlaceModel) → ShowsDurable entry.stamp entry.index (message.Ask place) (reply.Held listing) ⊎ ShowsAbove entry.stamp (reply.Held listing) → covers listing entry ≡ true
+  shown_covers place (inl (shown, same, has)) = durable_covers shown same has
+  shown_covers place (inr (shown, same, floor, is)) = floor_covers shown same floor is
 
 module _ (listing : ListingModel) (entry : Entry) where
   -- it is listed as durable

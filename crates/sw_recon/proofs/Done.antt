@@ -6,7 +6,7 @@ use Rattle.sw_message.specs.Transcript.{Step, Told}
 use Rattle.sw_message.specs.declared.message.Msg.{Msg}
 use Rattle.sw_message.specs.declared.miss.Miss.{Miss}
 use Rattle.sw_message.specs.declared.reply.Reply.{Reply}
-use Rattle.sw_recon.specs.Causes.{AreDone, IsCovered, WasKept, WasMissed, WasRemoved, WasTold}
+use Rattle.sw_recon.specs.Causes.{AreDone, IsCovered, WasKept, WasMissed, WasRemoved, WasStored, WasTold}
 use Rattle.sw_recon.specs.Revert.{Begun, kept_as}
 use Rattle.sw_recon.specs.declared.kept.KeptCause.{KeptCause}
 use Rattle.sw_recon.specs.declared.kept.KeptCause.TheVariants.{Missed, NoMark, NotDurable}
@@ -20,16 +20,19 @@ module _ (past : List Step) (step : Step) where
 
   module _ (begun : Begun) where
     missed-later : (entry : Entry) (how : Miss) → WasMissed begun past entry how → WasMissed begun (step ∷ past) entry how
-    missed-later entry how was = record { device = was.device; msg = was.msg; about = was.about; answer = was.answer; told = told-later was.device was.msg was.answer was.told; miss = was.miss }
+    missed-later entry how was = record { below = was.below; device = was.device; msg = was.msg; about = was.about; answer = was.answer; told = told-later was.device was.msg was.answer was.told; miss = was.miss }
+
+    pub stored-later : (entry : Entry) → WasStored begun past entry → WasStored begun (step ∷ past) entry
+    stored-later entry was = record { durable = was.durable; bytes = was.bytes; told = told-later _ _ _ was.told }
 
     kept-later : (entry : Entry) (cause : KeptCause) → WasKept begun past entry cause → WasKept begun (step ∷ past) entry cause
-    kept-later entry NotDurable (plain, listing, told, none) = (plain, listing, told-later _ _ _ told, none)
-    kept-later entry NoMark told = told-later _ _ _ told
+    kept-later entry NotDurable (below, plain, listing, told, none) = (below, plain, listing, told-later _ _ _ told, none)
+    kept-later entry NoMark (below, stored, told) = (below, stored-later entry stored, told-later _ _ _ told)
     kept-later entry (Missed how) (inl above) = inl above
     kept-later entry (Missed how) (inr was) = inr (missed-later entry how was)
 
     pub covered-later : (entry : Entry) → IsCovered begun past entry → IsCovered begun (step ∷ past) entry
-    covered-later entry is = record { msg = is.msg; given = is.given; told = told-later _ is.msg (Some is.given) is.told; place = is.place; shows = is.shows }
+    covered-later entry is = record { below = is.below; msg = is.msg; given = is.given; told = told-later _ is.msg (Some is.given) is.told; place = is.place; shows = is.shows }
 
     pub done-later : (entries : List Entry) (removed : ℕ) (kept : List KeptEntry) → AreDone begun past entries removed kept → AreDone begun (step ∷ past) entries removed kept
     done-later [] removed kept done = done

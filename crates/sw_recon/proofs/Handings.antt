@@ -125,7 +125,7 @@ module _ (begun : Begun) (past : List Step) (learnt : Learnt) (knows : AreKnown 
     warranted_by (Store bytes) is =
         of_put begun learnt entry.stamp entry.index bytes is.treated.2 is.below (told_known begun.device (message.Fetch begun.place entry.stamp entry.index) (reply.Fragment bytes) is.treated.1)
     warranted_by Commit is =
-        let durable : entry ≡ record { stamp = entry.stamp; index = entry.index; durable = true } = ap (λ b. record { stamp = entry.stamp; index = entry.index; durable = b }) is.treated in
+        let durable : entry ≡ record { stamp = entry.stamp; index = entry.index; durable = true } = ap (λ b. record { stamp = entry.stamp; index = entry.index; durable = b }) is.treated.durable in
         inr (record {
           heard = record { device = begun.device; msg = message.Ask begun.place; reply = reply.Held is.listing };
           known = (reply_known begun learnt past (own_message begun 0) (reply.Held is.listing) knows is.own).0 (λ same. cc);

@@ -1,7 +1,7 @@
 -- What is known at a transcript's status: the entries before the one that is treated are done, and it is treated by what was answered.
 use Rattle.std.proofs.Common.{◌≡◌, ◌⊎◌, inl, inr, ℕ, ◌+◌, ◌<◌, Bool, true, false, List, [], ◌∷◌, ◌++◌, append_assoc, append-nil, length, take, Option, Some, None, refl, sym, ap, subst, ◌∙◌, arith}
 use Rattle.std.specs.Prelude.{if◌then◌else◌, ⊤}
-use Rattle.std.proofs.lemmas.Bool.{cases_lt}
+use Rattle.std.proofs.lemmas.Bool.{cases_lt, true≢false}
 use Rattle.sw_hashdir.specs.Listing.{ListingModel}
 use Rattle.sw_hashdir.specs.declared.entry.Entry.{Entry}
 use Rattle.sw_hashdir.specs.declared.floor.Floor.{Floor}
@@ -17,7 +17,7 @@ use Rattle.sw_message.specs.declared.reply.Reply.{Reply}
 use Rattle.sw_message.specs.declared.reply.Reply.TheVariants as reply
 use Rattle.sw_message.specs.declared.sent.Sent.{Sent}
 use Rattle.sw_message.specs.declared.spoil.Spoil.{Spoil}
-use Rattle.sw_recon.specs.Causes.{AreDone, IsAbout, IsCovered, IsDone, IsMissOf, IsUnanswered, ListsOwn, WasKept, WasRemoved, WasTold}
+use Rattle.sw_recon.specs.Causes.{AreDone, IsAbout, IsCovered, IsDone, IsMissOf, IsUnanswered, ListsOwn, WasKept, WasRemoved, WasStored, WasTold}
 use Rattle.sw_recon.specs.Course.{Course, most_entries}
 use Rattle.sw_recon.specs.Revert.{Begun, IsNext, IsSpoilt, IsStatus, Leads, after_by, asked, committed, covers, fetched, forbidden, goes_on, kept_as, keeps, next_at, own_message, removed, removes, started_by, stored, total, treat, treat_message}
 use Rattle.sw_recon.specs.declared.kept.KeptCause.{KeptCause}
@@ -28,8 +28,8 @@ use Rattle.sw_recon.specs.declared.status.Status.{Status}
 use Rattle.sw_recon.specs.declared.status.Status.TheVariants.{Ends, Starts, Treats}
 use Rattle.sw_recon.specs.declared.treatment.Treatment.{Treatment}
 use Rattle.sw_recon.specs.declared.treatment.Treatment.TheVariants.{Ask, Commit, Fetch, Remove, Store}
-use Rattle.sw_recon.proofs.Covers.{above_shown, covers_shown}
-use Rattle.sw_recon.proofs.Done.{covered-later, done-kept, done-later, done-removed, told-later}
+use Rattle.sw_recon.proofs.Covers.{above_shown, covers_shown, shown_covers}
+use Rattle.sw_recon.proofs.Done.{covered-later, done-kept, done-later, done-removed, stored-later, told-later}
 use Rattle.sw_recon.proofs.Machine.{IsAnswered, IsHanded, answered, handed, one_status}
 use Rattle.sw_recon.proofs.Treats.{treats_first, treats_later}
 
@@ -40,7 +40,7 @@ IsTreated begun past entry Ask = ⊤
 IsTreated begun past entry Fetch = entry.durable ≡ true
 IsTreated begun past entry (Store bytes) =
     (entry.durable ≡ true) × WasTold past begun.device (message.Fetch begun.place entry.stamp entry.index) (Some (reply.Fragment bytes)) × IsArchiveOf begun.cluster begun.place entry.stamp entry.index bytes
-IsTreated begun past entry Commit = entry.durable ≡ true
+IsTreated begun past entry Commit = WasStored begun past entry
 IsTreated begun past entry Remove = IsCovered begun past entry
 
 pub record IsCourse (begun : Begun) (past : List Step) (course : Course) : Type 0 where
@@ -65,7 +65,7 @@ module _ (begun : Begun) (past : List Step) (step : Step) where
   treated-later entry Ask is = tt
   treated-later entry Fetch is = is
   treated-later entry (Store bytes) (durable, told, archive) = (durable, told-later past step _ _ _ told, archive)
-  treated-later entry Commit is = is
+  treated-later entry Commit is = stored-later past step begun entry is
   treated-later entry Remove is = covered-later past step begun entry is
 
   course-later : (course : Course) → IsCourse begun past course → IsCourse begun (step ∷ past) course
@@ -134,7 +134,7 @@ module _ (begun : Begun) (past : List Step) (entry : Entry) (later : List Entry)
 
     missed-known : (how : Miss) → IsMissOf begun entry (sent treatment).msg answer how → Knows begun (after treatment answer) (keeps (total begun) (at treatment) (Missed how))
     missed-known how is =
-        kept-known (Missed how) (inr (record { device = (sent treatment).device; msg = (sent treatment).msg; about = about treatment; answer = answer; told = here treatment answer; miss = is }))
+        kept-known (Missed how) (inr (record { below = known.below; device = (sent treatment).device; msg = (sent treatment).msg; about = about treatment; answer = answer; told = here treatment answer; miss = is }))
 
     removed-known : WasRemoved begun (after treatment answer) entry → Knows begun (after treatment answer) (removes (total begun) (at treatment))
     removed-known was =
@@ -152,9 +152,10 @@ module _ (begun : Begun) (past : List Step) (entry : Entry) (later : List Entry)
       → Knows begun (after Ask (Some (reply.Held listing))) (if is_covered then goes_on (at Ask) Remove else if is_durable then goes_on (at Ask) Fetch else keeps (total begun) (at Ask) NotDurable)
   listed-known listing true is_durable covered durable known =
       goes-known Ask (Some (reply.Held listing)) known Remove
-      (record { msg = message.Ask begun.place; given = reply.Held listing; told = here Ask (Some (reply.Held listing)); place = refl; shows = covers_shown listing entry begun.place covered })
+      (record { below = known.below; msg = message.Ask begun.place; given = reply.Held listing; told = here Ask (Some (reply.Held listing)); place = refl; shows = covers_shown listing entry begun.place covered })
   listed-known listing false true covered durable known = goes-known Ask (Some (reply.Held listing)) known Fetch durable
-  listed-known listing false false covered durable known = kept-known Ask (Some (reply.Held listing)) known NotDurable (durable, listing, here Ask (Some (reply.Held listing)), covered)
+  listed-known listing false false covered durable known = kept-known Ask (Some (reply.Held listing)) known NotDurable
+      (known.below, durable, listing, here Ask (Some (reply.Held listing)), λ shows. true≢false (sym (shown_covers listing entry begun.place shows) ∙ covered))
 
   asked-known : (answer : Option Reply) → IsCourse begun past (at Ask) → Knows begun (after Ask answer) (asked (total begun) (at Ask) answer)
   asked-known None known = missed-known Ask None known miss.NoReply refl
@@ -174,12 +175,12 @@ module _ (begun : Begun) (past : List Step) (entry : Entry) (later : List Entry)
       → Knows begun (after (Store bytes) (Some (reply.Superseded floor))) (forbidden (total begun) (at (Store bytes)) above)
   stored-floor bytes floor true above known =
       goes-known (Store bytes) (Some (reply.Superseded floor)) known Remove
-      (record { msg = (sent (Store bytes)).msg; given = reply.Superseded floor; told = here (Store bytes) (Some (reply.Superseded floor)); place = refl; shows = inr (above_shown floor entry.stamp above) })
+      (record { below = known.below; msg = (sent (Store bytes)).msg; given = reply.Superseded floor; told = here (Store bytes) (Some (reply.Superseded floor)); place = refl; shows = inr (above_shown floor entry.stamp above) })
   stored-floor bytes floor false above known = missed-known (Store bytes) (Some (reply.Superseded floor)) known miss.Odd (refl, above)
 
   stored-known : (bytes : List ℕ) (answer : Option Reply) → IsCourse begun past (at (Store bytes)) → Knows begun (after (Store bytes) answer) (stored (total begun) (at (Store bytes)) answer)
   stored-known bytes None known = missed-known (Store bytes) None known miss.NoReply refl
-  stored-known bytes (Some reply.Synced) known = goes-known (Store bytes) (Some reply.Synced) known Commit known.treated.0
+  stored-known bytes (Some reply.Synced) known = goes-known (Store bytes) (Some reply.Synced) known Commit (record { durable = known.treated.0; bytes = bytes; told = here (Store bytes) (Some reply.Synced) })
   stored-known bytes (Some (reply.Superseded floor)) known = stored-floor bytes floor (stands_above floor entry.stamp) refl known
   stored-known bytes (Some other) known = missed-known (Store bytes) (Some other) known (miss_of other) refl
 
@@ -187,16 +188,17 @@ module _ (begun : Begun) (past : List Step) (entry : Entry) (later : List Entry)
       → Knows begun (after Commit (Some (reply.Superseded floor))) (forbidden (total begun) (at Commit) above)
   committed-floor floor true above known =
       goes-known Commit (Some (reply.Superseded floor)) known Remove
-      (record { msg = (sent Commit).msg; given = reply.Superseded floor; told = here Commit (Some (reply.Superseded floor)); place = refl; shows = inr (above_shown floor entry.stamp above) })
+      (record { below = known.below; msg = (sent Commit).msg; given = reply.Superseded floor; told = here Commit (Some (reply.Superseded floor)); place = refl; shows = inr (above_shown floor entry.stamp above) })
   committed-floor floor false above known = missed-known Commit (Some (reply.Superseded floor)) known miss.Odd (refl, above)
 
   committed-known : (answer : Option Reply) → IsCourse begun past (at Commit) → Knows begun (after Commit answer) (committed (total begun) (at Commit) answer)
   committed-known None known = missed-known Commit None known miss.NoReply refl
   committed-known (Some reply.Committed) known =
       goes-known Commit (Some reply.Committed) known Remove
-      (record { msg = (sent Commit).msg; given = reply.Committed; told = here Commit (Some reply.Committed); place = refl; shows = inl (refl, refl) })
+      (record { below = known.below; msg = (sent Commit).msg; given = reply.Committed; told = here Commit (Some reply.Committed); place = refl; shows = inl (refl, refl) })
   committed-known (Some (reply.Superseded floor)) known = committed-floor floor (stands_above floor entry.stamp) refl known
-  committed-known (Some reply.Missing) known = kept-known Commit (Some reply.Missing) known NoMark (here Commit (Some reply.Missing))
+  committed-known (Some reply.Missing) known = kept-known Commit (Some reply.Missing) known NoMark
+      (known.below, stored-later past (Told (sent Commit) (Some reply.Missing)) begun entry known.treated, here Commit (Some reply.Missing))
   committed-known (Some other) known = missed-known Commit (Some other) known (miss_of other) refl
 
   taken-known : (answer : Option Reply) → IsCourse begun past (at Remove) → Knows begun (after Remove answer) (removed (total begun) (at Remove) answer)

@@ -1,6 +1,7 @@
 pub mod Changes
 pub mod Covers
 pub mod Done
+pub mod Handed
 pub mod Handings
 pub mod Known
 pub mod Machine

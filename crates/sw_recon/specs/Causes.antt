@@ -1,11 +1,11 @@
 -- Why a revert ended as it did, by what was answered.
-use Rattle.std.specs.Prelude.{◌≡◌, ◌⊎◌, ℕ, ◌+◌, ◌≤◌, false, List, [], ◌∷◌, take, Contains, Option, Some, None}
+use Rattle.std.specs.Prelude.{◌≡◌, ◌⊎◌, ℕ, ◌+◌, ◌<◌, ◌≤◌, true, false, List, [], ◌∷◌, take, Contains, Option, Some, None}
 use Rattle.sw_hashdir.specs.Listing.{ListingModel}
 use Rattle.sw_hashdir.specs.declared.entry.Entry.{Entry}
 use Rattle.sw_message.specs.Floors.{stands_above}
 use Rattle.sw_message.specs.Message.{place_in}
 use Rattle.sw_message.specs.Miss.{miss_of}
-use Rattle.sw_message.specs.Spoil.{IsSpoil}
+use Rattle.sw_message.specs.Spoil.{IsArchiveOf, IsSpoil}
 use Rattle.sw_message.specs.Transcript.{Step, Told}
 use Rattle.sw_message.specs.Warrant.{ShowsAbove, ShowsDurable}
 use Rattle.sw_message.specs.declared.message.Msg.{Msg}
@@ -16,7 +16,7 @@ use Rattle.sw_message.specs.declared.reply.Reply.{Reply}
 use Rattle.sw_message.specs.declared.reply.Reply.TheVariants as reply
 use Rattle.sw_message.specs.declared.spoil.Spoil.{Spoil}
 use Rattle.sw_recon.specs.Course.{most_entries}
-use Rattle.sw_recon.specs.Revert.{Begun, covers, kept_as, own_message, primary_of, total}
+use Rattle.sw_recon.specs.Revert.{Begun, kept_as, own_message, primary_of, total}
 use Rattle.sw_recon.specs.declared.kept.KeptCause.{KeptCause}
 use Rattle.sw_recon.specs.declared.kept.KeptCause.TheVariants.{Missed, NoMark, NotDurable}
 use Rattle.sw_recon.specs.declared.kept.KeptEntry.{KeptEntry}
@@ -57,6 +57,7 @@ IsAbout begun entry device (message.Remove place stamp index) = (device ≡ begu
 IsAbout begun entry device other = ⊥
 
 pub record WasMissed (begun : Begun) (past : List Step) (entry : Entry) (how : Miss) : Type 0 where
+  pub below : entry.index < total begun
   pub device : ℕ
   pub msg : Msg
   pub about : IsAbout begun entry device msg
@@ -64,16 +65,29 @@ pub record WasMissed (begun : Begun) (past : List Step) (entry : Entry) (how : M
   pub told : WasTold past device msg answer
   pub miss : IsMissOf begun entry msg answer how
 
--- Why an entry was kept: it is not durable, and its primary listed nothing that covers it; its primary no longer had it as it was to
--- make it durable; a message about it missed; or the policy has no such index.
+-- a listing of the primary shows the entry durable, or a floor above its stamp
+abbrev pub IsCoveredBy : Begun → Entry → ListingModel → Type 0
+IsCoveredBy begun entry listing = ShowsDurable entry.stamp entry.index (message.Ask begun.place) (reply.Held listing) ⊎ ShowsAbove entry.stamp (reply.Held listing)
+
+-- the entry is durable, and the primary of its index answered that it stored its archive
+pub record WasStored (begun : Begun) (past : List Step) (entry : Entry) : Type 0 where
+  pub durable : entry.durable ≡ true
+  pub bytes : List ℕ
+  pub told : WasTold past (primary_of begun entry.index) (message.PutFrag begun.place entry.stamp entry.index bytes) (Some reply.Synced)
+
+-- Why an entry was kept: it is not durable, and its primary listed nothing that covers it; its primary stored it, and answered that it
+-- was not there as it was to make it durable; a message about it missed; or the policy has no such index.
 abbrev pub WasKept : Begun → List Step → Entry → KeptCause → Type 0
 WasKept begun past entry NotDurable =
-    (entry.durable ≡ false) × (listing : ListingModel) × WasTold past (primary_of begun entry.index) (message.Ask begun.place) (Some (reply.Held listing)) × (covers listing entry ≡ false)
-WasKept begun past entry NoMark = WasTold past (primary_of begun entry.index) (message.Commit begun.place entry.stamp entry.index) (Some reply.Missing)
+    (entry.index < total begun) × (entry.durable ≡ false) × (listing : ListingModel) × WasTold past (primary_of begun entry.index) (message.Ask begun.place) (Some (reply.Held listing))
+    × (IsCoveredBy begun entry listing → ⊥)
+WasKept begun past entry NoMark =
+    (entry.index < total begun) × WasStored begun past entry × WasTold past (primary_of begun entry.index) (message.Commit begun.place entry.stamp entry.index) (Some reply.Missing)
 WasKept begun past entry (Missed how) = ((total begun ≤ entry.index) × (how ≡ miss.Odd)) ⊎ WasMissed begun past entry how
 
 -- the primary of its index told that it has the entry durable, or that a floor stands above it
 pub record IsCovered (begun : Begun) (past : List Step) (entry : Entry) : Type 0 where
+  pub below : entry.index < total begun
   pub msg : Msg
   pub given : Reply
   pub told : WasTold past (primary_of begun entry.index) msg (Some given)
@@ -90,6 +104,13 @@ AreDone begun past [] removed kept = (removed ≡ 0) × (kept ≡ [])
 AreDone begun past (entry ∷ entries) removed kept =
     ((cause : KeptCause) × (rest : List KeptEntry) × (kept ≡ kept_as entry cause ∷ rest) × WasKept begun past entry cause × AreDone begun past entries removed rest)
     ⊎ ((fewer : ℕ) × (removed ≡ fewer + 1) × WasRemoved begun past entry × AreDone begun past entries fewer kept)
+
+-- ---- messages
+
+-- the bytes are the archive of the place, the stamp and the index, and the own device sent them
+pub record WasFetched (begun : Begun) (past : List Step) (stamp index : ℕ) (bytes : List ℕ) : Type 0 where
+  pub archive : IsArchiveOf begun.cluster begun.place stamp index bytes
+  pub told : WasTold past begun.device (message.Fetch begun.place stamp index) (Some (reply.Fragment bytes))
 
 -- ---- ends
 

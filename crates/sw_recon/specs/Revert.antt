@@ -1,4 +1,4 @@
--- The machine of a revert: each entry of a handoff goes to the primary of its index, and is then removed.
+-- The machine of a revert: each entry of a handoff goes to the primary of its index, and is then removed, or is kept.
 use Rattle.std.specs.Prelude.{◌≡◌, ℕ, ◌+◌, ◌==◌, Bool, true, false, ◌&&◌, ◌||◌, if◌then◌else◌, nat_le, nat_lt, List, [], ◌∷◌, ◌++◌, length, slice_index, take, Option, Some, None}
 use Rattle.std.specs.List.{list_any}
 use Rattle.sw_hashpath.specs.Place.{IsPlace, PlaceModel}

@@ -8,7 +8,7 @@ use sw_types::Stamp;
 pub enum KeptCause {
     /// It is not durable, and its primary shows nothing that covers it.
     NotDurable,
-    /// Its primary could not make it durable: the archive was not there any more.
+    /// Its primary had stored it, and answered that it was not there as it was to make it durable.
     NoMark,
     /// A message about it missed, or the policy has no such index.
     Missed(Miss),

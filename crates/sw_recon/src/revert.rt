@@ -21,8 +21,8 @@ use sw_message::{Msg, Reply, Sent, Spoil, Tickets, Unread, read_asked};
 use sw_ring::Cluster;
 use sw_types::{NoMemory, Policy};
 
-/// A revert. Each entry of its device, a handoff of the place, goes to the primary of its index, and is then removed, one after the
-/// other: at most 65,536 in one job.
+/// A revert. Each entry of its device, a handoff of the place, goes to the primary of its index, and is then removed, or is kept, one
+/// after the other: at most 65,536 in one job.
 #[derive(Debug, Drop)]
 pub struct RevertJob<'a> {
     alloc: Global,

@@ -27,6 +27,8 @@ const NINTH: Answer = Held(&["0000000000.00007#3#d.data"]);
 
 const BOTH: Answer = Held(&["0000000000.00007#1#d.data", "0000000000.00008#2#d.data"]);
 
+const TWICE: Answer = Held(&["0000000000.00007#1#d.data", "0000000000.00008#1#d.data"]);
+
 fn a_c_o(alloc: Global) -> Result<Name, Fail> {
     Ok(Name::make(alloc, b"a", b"c", b"o")?)
 }
@@ -166,7 +168,7 @@ fn ended(alloc: Global, turns: &[Turn]) -> Result<RevertEnd, Fail> {
 
 #[test]
 fn removes_what_is_covered(rt: HostRuntime) -> Result<(), Fail> {
-    let cases: [&[Turn]; 7] = [
+    let cases: [&[Turn]; 8] = [
         &[(3, "ask", SEVEN), (1, "ask", SEVEN), (3, "remove", Removed)],
         &[(3, "ask", PLAIN), (1, "ask", SEVEN), (3, "remove", Removed)],
         &[
@@ -177,6 +179,11 @@ fn removes_what_is_covered(rt: HostRuntime) -> Result<(), Fail> {
         &[
             (3, "ask", PLAIN),
             (1, "ask", Held(&["0000000000.00008#0#d.data"])),
+            (3, "remove", Removed),
+        ],
+        &[
+            (3, "ask", SEVEN),
+            (1, "ask", Held(&["0000000000.00008.ts"])),
             (3, "remove", Removed),
         ],
         &[
@@ -306,6 +313,13 @@ fn treats_one_after_the_other(rt: HostRuntime) -> Result<(), Fail> {
     ];
     let fault = KeptCause::Missed(Miss::DiskFault);
     assert!(rt; is_done(Some(&ended(alloc, &both)?), 1, &[(7, 1, fault)]));
+    let twice = [
+        (3, "ask", TWICE),
+        (1, "ask", Fault),
+        (1, "ask", TWICE),
+        (3, "remove", Removed),
+    ];
+    assert!(rt; is_done(Some(&ended(alloc, &twice)?), 1, &[(7, 1, fault)]));
     for answer in [Silence, Fault] {
         let end = ended(alloc, &[(3, "ask", answer)])?;
         assert!(rt; matches!(end, RevertEnd::Unanswered { device: 3 }));
