@@ -4,7 +4,7 @@ use Rattle.std.specs.Prelude.{if◌then◌else◌}
 use Rattle.std.specs.List.{slice_get}
 use Rattle.sw_types.specs.Object.{ObjectModel}
 use Rattle.sw_diskfile.proofs.Lists.{Contains-first}
-use Rattle.sw_message.specs.Learnt.{AreKnown, Booked, Learnt, Marked}
+use Rattle.sw_message.specs.Learnt.{AreKnown, Booked, IsSoundBook, Learnt, Marked}
 use Rattle.sw_message.specs.Message.{IsPlaceOf, place_in}
 use Rattle.sw_message.specs.Transcript.{Hand, Over, Step}
 use Rattle.sw_message.specs.Warrant.{IsWarranted}
@@ -25,7 +25,7 @@ use Rattle.sw_put.specs.Put as puts
 use Rattle.sw_put.proofs.Transcripts as put_transcripts
 use Rattle.sw_put.proofs.Warrants as put_warrants
 use Rattle.sw_scene.specs.Devices.{Devices}
-use Rattle.sw_scene.specs.Filed.{AreFiled, IsSoundBook}
+use Rattle.sw_scene.specs.Filed.{AreFiled}
 use Rattle.sw_scene.specs.Running.{RunsAlone, learnt_of}
 use Rattle.sw_scene.proofs.Alone.{HandsWarranted, alone}
 
@@ -37,12 +37,12 @@ put-hands begun learnt valid has = λ past sent run known next.
     let is = (put_transcripts.handed begun past sent next).1 in
     ((put_warrants.is_of begun past sent valid run is).place, put_warrants.warranted begun learnt past sent valid run has known is)
 
-pub put-alone : (begun : puts.Begun) (book : List Booked) (before after : Devices) (past : List Step) → puts.IsBegun begun → IsSoundBook begun.cluster.policy book
-    → Contains book (record { stamp = begun.stamp; name = begun.name; object = begun.object }) → AreFiled begun.cluster book before → RunsAlone begun.cluster (puts.IsNext begun) before past after
+pub put-alone : (begun : puts.Begun) (book : List Booked) (down : ℕ → Bool) (before after : Devices) (past : List Step) → puts.IsBegun begun → IsSoundBook begun.cluster.policy book
+    → Contains book (record { stamp = begun.stamp; name = begun.name; object = begun.object }) → AreFiled begun.cluster book before → RunsAlone begun.cluster down (puts.IsNext begun) before past after
     → AreFiled begun.cluster book after
-put-alone begun book before after past valid sound has were runs =
+put-alone begun book down before after past valid sound has were runs =
     let learnt : Learnt = learnt_of book [] past in
-    (alone begun.cluster (puts.IsNext begun) learnt sound (put-hands begun learnt valid has) before were past after runs.run runs.handled (λ one there. there)).1
+    (alone begun.cluster down (puts.IsNext begun) learnt sound (put-hands begun learnt valid has) before were past after runs.run runs.handled (λ one there. there)).1
 
 -- ---- deletes
 
@@ -52,12 +52,12 @@ delete-hands begun learnt valid has = λ past sent run known next.
     let is = (delete_transcripts.handed begun past sent next).1 in
     ((delete_devices.is_of begun past sent valid is).place, delete_devices.is_warranted begun past sent learnt has is)
 
-pub delete-alone : (begun : deletes.Begun) (book : List Booked) (before after : Devices) (past : List Step) → deletes.IsBegun begun → IsSoundBook begun.cluster.policy book
-    → AreFiled begun.cluster book before → RunsAlone begun.cluster (deletes.IsNext begun) before past after → AreFiled begun.cluster book after
-delete-alone begun book before after past valid sound were runs =
+pub delete-alone : (begun : deletes.Begun) (book : List Booked) (down : ℕ → Bool) (before after : Devices) (past : List Step) → deletes.IsBegun begun → IsSoundBook begun.cluster.policy book
+    → AreFiled begun.cluster book before → RunsAlone begun.cluster down (deletes.IsNext begun) before past after → AreFiled begun.cluster book after
+delete-alone begun book down before after past valid sound were runs =
     let own : Marked = record { stamp = begun.stamp; name = begun.name } in
     let learnt : Learnt = learnt_of book (own ∷ []) past in
-    (alone begun.cluster (deletes.IsNext begun) learnt sound (delete-hands begun learnt valid (Contains-first own [])) before were past after runs.run runs.handled (λ one there. there)).1
+    (alone begun.cluster down (deletes.IsNext begun) learnt sound (delete-hands begun learnt valid (Contains-first own [])) before were past after runs.run runs.handled (λ one there. there)).1
 
 -- ---- gets
 
@@ -93,15 +93,15 @@ module _ (begun : gets.Begun) (learnt : Learnt) (sent : Sent) where
 get-hands : (begun : gets.Begun) (learnt : Learnt) → HandsWarranted begun.cluster (gets.IsNext begun) learnt
 get-hands begun learnt = λ past sent run known next. sends begun learnt sent next.0 (gets.going_in begun next.0) next.2
 
-module _ (begun : gets.Begun) (book : List Booked) (marks : List Marked) (before after : Devices) (past : List Step) (valid : gets.IsBegun begun) (sound : IsSoundBook begun.cluster.policy book) (were : AreFiled begun.cluster book before) (runs : RunsAlone begun.cluster (gets.IsNext begun) before past after) where
+module _ (begun : gets.Begun) (book : List Booked) (marks : List Marked) (down : ℕ → Bool) (before after : Devices) (past : List Step) (valid : gets.IsBegun begun) (sound : IsSoundBook begun.cluster.policy book) (were : AreFiled begun.cluster book before) (runs : RunsAlone begun.cluster down (gets.IsNext begun) before past after) where
   get-kept : AreKnown begun.cluster (learnt_of book marks past) past × AreFiled begun.cluster book after
   get-kept =
-      alone begun.cluster (gets.IsNext begun) (learnt_of book marks past) sound (get-hands begun (learnt_of book marks past)) before were past after runs.run runs.handled (λ one there. there)
+      alone begun.cluster down (gets.IsNext begun) (learnt_of book marks past) sound (get-hands begun (learnt_of book marks past)) before were past after runs.run runs.handled (λ one there. there)
 
   pub found-put : (stamp : ℕ) (object : ObjectModel) (sources : List Target) → gets.IsEnd begun past (Found stamp object sources) → IsPutFound begun past (learnt_of book marks past) stamp object sources
   found-put stamp object sources end =
       found_put begun past (learnt_of book marks past) stamp object sources valid runs.run (record { one = sound.one; objects = λ booked there. (sound.puts booked there).object_rules }) get-kept.0 end
 
-pub get-alone : (begun : gets.Begun) (book : List Booked) (before after : Devices) (past : List Step) → gets.IsBegun begun → IsSoundBook begun.cluster.policy book → AreFiled begun.cluster book before
-    → RunsAlone begun.cluster (gets.IsNext begun) before past after → AreFiled begun.cluster book after
-get-alone begun book before after past valid sound were runs = (get-kept begun book [] before after past valid sound were runs).1
+pub get-alone : (begun : gets.Begun) (book : List Booked) (down : ℕ → Bool) (before after : Devices) (past : List Step) → gets.IsBegun begun → IsSoundBook begun.cluster.policy book → AreFiled begun.cluster book before
+    → RunsAlone begun.cluster down (gets.IsNext begun) before past after → AreFiled begun.cluster book after
+get-alone begun book down before after past valid sound were runs = (get-kept begun book [] down before after past valid sound were runs).1

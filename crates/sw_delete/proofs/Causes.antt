@@ -17,7 +17,8 @@ use Rattle.sw_quorum.specs.Laws.{done-each, floor-stays, floors-each, floors-mor
 use Rattle.sw_quorum.specs.Refusals.{IsRefusal, not-done, refusal}
 use Rattle.sw_quorum.specs.declared.verdict.Verdict.TheVariants.{Done, Forbidden}
 use Rattle.sw_delete.specs.Causes.{IsPlaced, ToldExisted, WasMarked, WasMissed, WasTold}
-use Rattle.sw_delete.specs.Delete.{Begun, IsNext, delete_message, delete_verdict, deletes, due, existed_in, handoffs, judge_delete, primaries, says_existed}
+use Rattle.sw_delete.specs.Delete.{Begun, IsNext, delete_message, deletes, due, existed_in, handoffs, judge_delete, primaries, says_existed}
+use Rattle.sw_quorum.specs.Verdicts.{delete_verdict}
 use Rattle.sw_delete.proofs.Transcripts.{open-delete}
 
 -- ---- what verdicts are of

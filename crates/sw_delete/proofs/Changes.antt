@@ -11,7 +11,8 @@ use Rattle.sw_quorum.specs.Answers.{Judged, missed}
 use Rattle.sw_quorum.specs.DueLaws as laws
 use Rattle.sw_quorum.specs.Tally.{Counts, counts_of}
 use Rattle.sw_quorum.specs.Transcripts.{run-told, some_found, told-ignored, told-open, told_count}
-use Rattle.sw_delete.specs.Delete.{Begun, IsNext, delete_end, delete_message, delete_next, delete_verdict, deletes, due, handoffs, says_existed}
+use Rattle.sw_delete.specs.Delete.{Begun, IsNext, delete_end, delete_message, delete_next, deletes, due, handoffs, says_existed}
+use Rattle.sw_quorum.specs.Verdicts.{delete_verdict}
 use Rattle.sw_delete.specs.Inside.{delete_seen}
 use Rattle.sw_delete.specs.Standing.{DeleteModel, Stands}
 use Rattle.sw_delete.specs.declared.delete.DeleteOp.TheInside.{Inside}

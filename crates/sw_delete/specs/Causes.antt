@@ -11,7 +11,8 @@ use Rattle.sw_message.specs.declared.reply.Reply.TheVariants as reply
 use Rattle.sw_message.specs.declared.sent.Sent.{Sent}
 use Rattle.sw_quorum.specs.Answers.{done, missed}
 use Rattle.sw_quorum.specs.declared.verdict.Verdict.TheVariants.{Missed}
-use Rattle.sw_delete.specs.Delete.{Begun, delete_message, delete_verdict, deletes, handoffs, primaries}
+use Rattle.sw_delete.specs.Delete.{Begun, delete_message, deletes, handoffs, primaries}
+use Rattle.sw_quorum.specs.Verdicts.{delete_verdict}
 
 -- a device of the place: a primary or a handoff
 abbrev pub IsPlaced : Begun → ℕ → Type 0

@@ -4,19 +4,16 @@ use Rattle.sw_types.specs.Name.{NameModel}
 use Rattle.sw_hashdir.specs.declared.floor.Floor.{Floor}
 use Rattle.sw_hashpath.specs.Place.{PlaceModel}
 use Rattle.sw_ring.specs.Cluster.{ClusterModel, KeepsRules, column_of, handoffs_of, place_of_name}
-use Rattle.sw_message.specs.Floors.{highest, refuses}
-use Rattle.sw_message.specs.Miss.{miss_of}
+use Rattle.sw_message.specs.Floors.{highest}
 use Rattle.sw_message.specs.Transcript.{Gave, Hand, Next, Over, Step, Told, Wait}
 use Rattle.sw_message.specs.declared.message.Msg.{Msg}
 use Rattle.sw_message.specs.declared.message.Msg.TheVariants.{Delete}
-use Rattle.sw_message.specs.declared.miss.Miss.TheVariants as miss
 use Rattle.sw_message.specs.declared.reply.Reply.{Reply}
 use Rattle.sw_message.specs.declared.reply.Reply.TheVariants as reply
 use Rattle.sw_message.specs.declared.sent.Sent.{Sent}
-use Rattle.sw_quorum.specs.Answers.{Judged, answers, done, floors, forbidden_if, missed}
+use Rattle.sw_quorum.specs.Answers.{Judged, answers, done, floors, missed}
 use Rattle.sw_quorum.specs.Dues.{due_next}
-use Rattle.sw_quorum.specs.declared.verdict.Verdict.{Verdict}
-use Rattle.sw_quorum.specs.declared.verdict.Verdict.TheVariants.{Done, Missed}
+use Rattle.sw_quorum.specs.Verdicts.{delete_verdict}
 use Rattle.sw_delete.specs.declared.end.DeleteEnd.{DeleteEnd}
 use Rattle.sw_delete.specs.declared.end.DeleteEnd.TheVariants as end
 
@@ -40,12 +37,6 @@ abbrev pub handoffs : Begun → List ℕ
 handoffs begun = handoffs_of begun.cluster (place_of begun).part
 
 -- ---- what answers mean
-
-abbrev pub delete_verdict : ℕ → Option Reply → Verdict
-delete_verdict stamp None = Missed miss.NoReply
-delete_verdict stamp (Some (reply.Deleted existed)) = Done
-delete_verdict stamp (Some (reply.Superseded floor)) = forbidden_if (refuses floor stamp) floor
-delete_verdict stamp (Some other) = Missed (miss_of other)
 
 -- of which device
 abbrev pub judge_delete : ℕ → Msg → Option Reply → List (Judged ℕ)

@@ -6,12 +6,12 @@ ghost use Rattle.sw_delete.specs.Delete.{Begun, delete_end, delete_next, due};
 ghost use Rattle.sw_delete.specs.Standing.{Stands, most_messages};
 
 use crate::end::DeleteEnd;
-use crate::verdict::{delete_verdict, says_existed};
+use crate::existed::says_existed;
 use std::alloc::Global;
 use std::marker::Model;
 use sw_hashpath::Place;
 use sw_message::{Msg, Reply, Sent, Tickets, primaries};
-use sw_quorum::Tally;
+use sw_quorum::{Tally, delete_verdict};
 use sw_ring::Cluster;
 use sw_types::{Items, Name, NoMemory, Stamp};
 

@@ -3,9 +3,9 @@
 
 mod delete;
 mod end;
+mod existed;
 mod laws;
 mod operation;
-mod verdict;
 
 pub use crate::delete::DeleteOp;
 pub use crate::end::DeleteEnd;

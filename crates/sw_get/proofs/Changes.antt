@@ -13,7 +13,7 @@ use Rattle.sw_message.specs.declared.reply.Reply.{Reply}
 use Rattle.sw_message.specs.declared.sent.Sent.{Sent}
 use Rattle.sw_quorum.specs.Transcripts.{found, run-told, told-ignored, told-open, waiting-some}
 use Rattle.sw_get.specs.Get.{AreTurns, Begun, EndsAfter, Hears, IsEnd, IsMeant, IsNext, Sends, devices, from_in, going_in, next_after, sends}
-use Rattle.sw_get.specs.Mailbox.{GoesWith, MailboxModel, Unread}
+use Rattle.sw_gather.specs.Mailbox.{GoesWith, MailboxModel, Unread}
 use Rattle.sw_get.specs.Meaning.{Meaning}
 use Rattle.sw_get.specs.Round.{Facts, lost, round_going}
 use Rattle.sw_get.specs.Standing.{AreCounted, AreFindings, Findings, GetModel, FindsObject, IsErrand, IsOpen, IsReady, IsWithin, Lead, Stands, Subject, going_of}
@@ -23,12 +23,12 @@ use Rattle.sw_get.specs.declared.round_end.Going.{Going}
 use Rattle.sw_get.specs.declared.round_end.Going.TheVariants as going
 use Rattle.sw_get.proofs.Counts.{counted-taken, opens_are, within as answers_few}
 use Rattle.sw_get.proofs.Goings.{AreAllHeard, AreFetched, GoingSays, going_says}
-use Rattle.sw_get.proofs.Lists.{slice_get_before, slice_get_last}
-use Rattle.sw_get.proofs.Mailboxes.{Taken}
+use Rattle.sw_gather.proofs.Lists.{slice_get_before, slice_get_last}
+use Rattle.sw_gather.proofs.Mailboxes.{Taken}
 use Rattle.sw_get.proofs.Turns.{sends-given}
 
 -- one answer more is to be read
-lead-snoc : (begun : Begun) (unread : List Unread) (read past : List Step) (errand : Errand) (answer : Option Reply) (sent : Sent) → IsErrand begun errand sent → Lead begun unread read past
+lead-snoc : (begun : Begun) (unread : List (Unread Errand)) (read past : List Step) (errand : Errand) (answer : Option Reply) (sent : Sent) → IsErrand begun errand sent → Lead begun unread read past
     → Lead begun (unread ++ (errand, answer) ∷ []) read (Told sent answer ∷ past)
 lead-snoc begun [] read past errand answer sent is leads = (sent, is, ap (λ path. Told sent answer ∷ path) leads)
 lead-snoc begun (one ∷ later) read past errand answer sent is leads = (leads.0, leads.1, lead-snoc begun later (Told leads.0 one.1 ∷ read) past errand answer sent is leads.2)
@@ -54,7 +54,7 @@ module _ (begun : Begun) (from : Option Floor) (facts : Facts) (opened : List Se
 module _ (get : GetModel) (begun : Begun) (past : List Step) (stands : Stands get begun past) where
   -- ---- an answer is taken
 
-  module _ (mailbox : MailboxModel) (same_errands : mailbox.errands ≡ get.mailbox.errands) where
+  module _ (mailbox : MailboxModel Errand) (same_errands : mailbox.errands ≡ get.mailbox.errands) where
     ignored : GoesWith mailbox past → mailbox.unread ≡ get.mailbox.unread → Stands (record get { mailbox = mailbox }) begun past
     ignored goes same = record {
       valid = stands.valid;
@@ -114,7 +114,7 @@ module _ (get : GetModel) (begun : Begun) (past : List Step) (stands : Stands ge
 
   -- ---- an answer is read
 
-  pub stands_read : (errand : Errand) (answer : Option Reply) (later : List Unread) → get.mailbox.unread ≡ (errand, answer) ∷ later
+  pub stands_read : (errand : Errand) (answer : Option Reply) (later : List (Unread Errand)) → get.mailbox.unread ≡ (errand, answer) ∷ later
       → (findings : Findings) (object : Option ObjectModel) (meaning : Meaning)
       → ((sent : Sent) → IsErrand begun errand sent → IsMeant begun stands.turns sent.msg answer meaning × AreFindings findings begun (Hears sent meaning ∷ stands.turns))
       → AreCounted findings.facts later (opens past)
@@ -191,7 +191,7 @@ module _ (get : GetModel) (begun : Begun) (past : List Step) (stands : Stands ge
     -- ---- a message is handed out
 
     pub stands_gave : (errand : Errand) (sent : Sent) → IsErrand begun errand sent → sent.ticket ≡ length get.mailbox.tickets → IsNext begun past (Hand sent)
-        → (mailbox : MailboxModel) → GoesWith mailbox (Gave sent ∷ past) → mailbox.errands ≡ get.mailbox.errands ++ errand ∷ [] → mailbox.unread ≡ get.mailbox.unread
+        → (mailbox : MailboxModel Errand) → GoesWith mailbox (Gave sent ∷ past) → mailbox.errands ≡ get.mailbox.errands ++ errand ∷ [] → mailbox.unread ≡ get.mailbox.unread
         → (findings : Findings) (object : Option ObjectModel) → AreFindings findings begun (Sends sent ∷ stands.turns) → AreCounted findings.facts [] (sent ∷ opens past)
         → FindsObject begun.cluster.policy findings.facts object
         → Stands (record get { findings = findings; object = object; mailbox = mailbox }) begun (Gave sent ∷ past)

@@ -11,7 +11,7 @@ use Rattle.sw_message.specs.declared.sent.Sent.{Sent}
 use Rattle.sw_message.specs.declared.target.Target.{Target}
 use Rattle.sw_quorum.specs.Transcripts.{HasOther, all-kept, has_ticket}
 use Rattle.sw_get.specs.Get.{Begun, ask_message, count_ask, fetch_message, is_ask}
-use Rattle.sw_get.specs.Mailbox.{Unread}
+use Rattle.sw_gather.specs.Mailbox.{Unread}
 use Rattle.sw_get.specs.Meaning.{Brings, Lacks, Lists, Meaning, Misses, asked_meaning, with_asked, with_fetched}
 use Rattle.sw_get.specs.Round.{Facts, lost}
 use Rattle.sw_get.specs.Standing.{AreCounted, IsErrand, ask_in, count_fetch, count_opens, count_unread, fetch_in}
@@ -21,7 +21,7 @@ use Rattle.sw_get.proofs.Meanings.{asked_cases}
 
 -- ---- counts of lists
 
-pub count_unread-snoc : (count : Errand → ℕ) (these : List Unread) (one : Unread) → count_unread count (these ++ one ∷ []) ≡ count_unread count these + count one.0
+pub count_unread-snoc : (count : Errand → ℕ) (these : List (Unread Errand)) (one : Unread Errand) → count_unread count (these ++ one ∷ []) ≡ count_unread count these + count one.0
 count_unread-snoc count [] one = refl
 count_unread-snoc count (unread ∷ later) one = omega (arith, count_unread-snoc count later one)
 
@@ -69,7 +69,7 @@ none_counted (sent ∷ sents) = by_kind (is_ask sent.msg) refl (none_counted sen
 
 module _ (facts : Facts) (opened : List Sent) where
   -- answered or not, no more were asked and tried
-  pub within : (unread : List Unread) → AreCounted facts unread opened → (facts.answered ≤ facts.asked) × (length facts.sources + lost facts ≤ length facts.tried)
+  pub within : (unread : List (Unread Errand)) → AreCounted facts unread opened → (facts.answered ≤ facts.asked) × (length facts.sources + lost facts ≤ length facts.tried)
   within unread counted = (omega (arith, counted.asks), omega (arith, counted.fetches))
 
   -- once nothing is to be read, every open message is missing
@@ -77,7 +77,7 @@ module _ (facts : Facts) (opened : List Sent) where
   opens_are counted = omega (arith, counted.asks, counted.fetches, none_counted opened)
 
   -- a device's answer is read
-  module _ (device : ℕ) (answer : Option Reply) (later : List Unread) (counted : AreCounted facts ((Ask device, answer) ∷ later) opened) where
+  module _ (device : ℕ) (answer : Option Reply) (later : List (Unread Errand)) (counted : AreCounted facts ((Ask device, answer) ∷ later) opened) where
     pub one_asked : facts.answered < facts.asked
     one_asked = omega (arith, counted.asks)
 
@@ -90,7 +90,7 @@ module _ (facts : Facts) (opened : List Sent) where
         ]
 
   -- a source's answer is read
-  pub counted-fetched : (stamp : ℕ) (source : Target) (answer : Option Reply) (later : List Unread) (meaning : Meaning) → ((listing : _) → meaning ≡ Lists listing → ⊥)
+  pub counted-fetched : (stamp : ℕ) (source : Target) (answer : Option Reply) (later : List (Unread Errand)) (meaning : Meaning) → ((listing : _) → meaning ≡ Lists listing → ⊥)
       → AreCounted facts ((Fetch stamp source, answer) ∷ later) opened → AreCounted (with_fetched facts source meaning) later opened
   counted-fetched stamp source answer later (Lists listing) never counted = absurd (never listing refl)
   counted-fetched stamp source answer later (Brings archive) never counted =
@@ -101,7 +101,7 @@ module _ (facts : Facts) (opened : List Sent) where
       record { asks = omega (arith, counted.asks); fetches = omega (arith, counted.fetches, length-append facts.failed (source ∷ [])) }
 
   -- an answer is taken
-  pub counted-taken : (begun : Begun) (unread : List Unread) (errand : Errand) (answer : Option Reply) (sent : Sent) → IsErrand begun errand sent
+  pub counted-taken : (begun : Begun) (unread : List (Unread Errand)) (errand : Errand) (answer : Option Reply) (sent : Sent) → IsErrand begun errand sent
       → find (has_ticket sent.ticket) opened ≡ Some sent → AllPairs HasOther opened
       → AreCounted facts unread opened → AreCounted facts (unread ++ (errand, answer) ∷ []) (filter (is_not sent.ticket) opened)
   counted-taken begun unread errand answer sent is found apart counted =

@@ -15,7 +15,7 @@ use Rattle.sw_message.specs.Message.{IsMember}
 use Rattle.sw_message.specs.Targets.{ascending}
 use Rattle.sw_message.specs.Transcript.{Over, Step}
 use Rattle.sw_get.specs.Get.{Begun, EndsAfter, EndsBy, IsBegun, IsNext, Turn, ask_first, devices, events, facts_in, going_in, most_kept, next_after, place_of, sends}
-use Rattle.sw_get.specs.Mailbox.{GoesWith}
+use Rattle.sw_gather.specs.Mailbox.{GoesWith}
 use Rattle.sw_get.specs.Round.{Facts, all_devices, no_facts}
 use Rattle.sw_get.specs.Standing.{AreCounted, AreFindings, EndsWith, Findings, FindsObject, GetModel, IsOpen, IsReady, Lead, NeedsObject, Stands, Subject, going_of, subject_of}
 use Rattle.sw_get.specs.declared.end.GetEnd.{GetEnd}

@@ -30,7 +30,7 @@ use Rattle.sw_get.specs.declared.round_end.RoundEnd.TheVariants as round
 use Rattle.sw_get.proofs.Goings.{AreAllHeard, AreFetched, GoingSays, LeavesNone, SomeMissed}
 use Rattle.sw_get.proofs.Indices.{are_indices, first_indices}
 use Rattle.sw_get.proofs.Kept.{all_answered, count_indices, kept_now, level_so, nothing_open, wanting_so, were_kept}
-use Rattle.sw_get.proofs.Lists.{here}
+use Rattle.sw_gather.proofs.Lists.{here}
 use Rattle.sw_get.proofs.Runs.{Keeps, all_kept, says as going_known}
 use Rattle.sw_get.proofs.Says.{are_heard}
 use Rattle.sw_get.proofs.Shown.{shown_among, target_shown}

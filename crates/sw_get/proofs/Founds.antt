@@ -31,8 +31,8 @@ use Rattle.sw_get.specs.declared.round_end.Going.TheVariants as going
 use Rattle.sw_get.specs.declared.round_end.RoundEnd.TheVariants as round
 use Rattle.sw_get.proofs.Goings.{IsFound, of_kind}
 use Rattle.sw_get.proofs.Kept.{all_answered, nothing_open, target_so}
-use Rattle.sw_get.proofs.Lists.{zip-weaker}
-use Rattle.sw_get.proofs.Members.{ascending-kept, with-kept}
+use Rattle.sw_gather.proofs.Lists.{zip-weaker}
+use Rattle.sw_gather.proofs.Sources.{ascending-kept, with-kept}
 use Rattle.sw_get.proofs.Runs.{IsBrought, Keeps, all_kept, says}
 use Rattle.sw_get.proofs.Sameness.{turns_together}
 use Rattle.sw_get.proofs.Says.{are_heard}

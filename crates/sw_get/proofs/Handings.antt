@@ -14,12 +14,13 @@ use Rattle.sw_message.specs.declared.sent.Sent.{Sent}
 use Rattle.sw_message.specs.declared.target.Target.{Target}
 use Rattle.sw_quorum.specs.Places.{place_right}
 use Rattle.sw_get.specs.Get.{Begun, IsNext, ask_first, ask_message, devices, events, fetch_message, most_kept, place_of, sends}
-use Rattle.sw_get.specs.Mailbox.{GoesWith, MailboxModel}
+use Rattle.sw_gather.specs.Mailbox.{GoesWith, MailboxModel}
 use Rattle.sw_get.specs.Round.{Facts, all_devices, no_facts}
 use Rattle.sw_get.specs.Standing.{AreCounted, Findings, GetModel, IsReady, MayHand, Stands, Subject, going_of}
 use Rattle.sw_get.specs.declared.errand.Errand.TheVariants.{Ask, Fetch}
 use Rattle.sw_get.specs.declared.round_end.Going.TheVariants as going
 use Rattle.sw_get.specs.declared.round_end.KeptEvent.{KeptEvent}
+use Rattle.sw_get.specs.declared.errand.Errand.{Errand}
 use Rattle.sw_get.proofs.Changes.{closes, counted_all, few, is_next, same_going, says, stands_gave, ticket_is}
 use Rattle.sw_get.proofs.Counts.{counted-ask, counted-fetch}
 use Rattle.sw_get.proofs.Findings.{finds-ask, finds-fetch, finds-kept}
@@ -54,7 +55,7 @@ module _ (get : GetModel) (begun : Begun) (past : List Step) (stands : Stands ge
     pub few_asked : get.findings.facts.asked < 96
     few_asked = omega (arith, slice_get_within (all_devices (devices begun)) get.findings.facts.asked device at, devices_few begun stands.valid)
 
-    pub stands_ask : (mailbox : MailboxModel) → ((sent : Sent) → sent.ticket ≡ ticket → GoesWith mailbox (Gave sent ∷ past)) → mailbox.errands ≡ get.mailbox.errands ++ Ask device ∷ []
+    pub stands_ask : (mailbox : MailboxModel Errand) → ((sent : Sent) → sent.ticket ≡ ticket → GoesWith mailbox (Gave sent ∷ past)) → mailbox.errands ≡ get.mailbox.errands ++ Ask device ∷ []
         → mailbox.unread ≡ get.mailbox.unread → (facts : Facts) (object : Option ObjectModel) → facts ≡ record get.findings.facts { asked = get.findings.facts.asked + 1 } → object ≡ get.object
         → Stands (with_read get get.findings.target facts object mailbox) begun (Gave (record { ticket = ticket; device = device; msg = message.Ask get.subject.place }) ∷ past)
     stands_ask mailbox goes_with errands unread facts object facts_is object_is =
@@ -87,7 +88,7 @@ module _ (get : GetModel) (begun : Begun) (past : List Step) (stands : Stands ge
     pub may_fetch : MayHand begun past (record { ticket = ticket; device = source.device; msg = message.Fetch get.subject.place stamp source.index })
     may_fetch = subst (λ (place : PlaceModel). MayHand begun past (record { ticket = ticket; device = source.device; msg = message.Fetch place stamp source.index })) (sym place_is) may_fetch_so
 
-    pub stands_fetch : (mailbox : MailboxModel) → ((sent : Sent) → sent.ticket ≡ ticket → GoesWith mailbox (Gave sent ∷ past)) → mailbox.errands ≡ get.mailbox.errands ++ Fetch stamp source ∷ []
+    pub stands_fetch : (mailbox : MailboxModel Errand) → ((sent : Sent) → sent.ticket ≡ ticket → GoesWith mailbox (Gave sent ∷ past)) → mailbox.errands ≡ get.mailbox.errands ++ Fetch stamp source ∷ []
         → mailbox.unread ≡ get.mailbox.unread → (facts : Facts) (object : Option ObjectModel) → facts ≡ record get.findings.facts { tried = get.findings.facts.tried ++ source ∷ [] } → object ≡ get.object
         → Stands (with_read get get.findings.target facts object mailbox) begun (Gave (record { ticket = ticket; device = source.device; msg = message.Fetch get.subject.place stamp source.index }) ∷ past)
     stands_fetch mailbox goes_with errands unread facts object facts_is object_is =
@@ -130,7 +131,7 @@ module _ (get : GetModel) (begun : Begun) (past : List Step) (stands : Stands ge
     abbrev pub begun_round : Findings
     begun_round = record { target = get.findings.target; from = get.findings.target; events = get.findings.events ++ event ∷ []; facts = record no_facts { asked = 1 } }
 
-    pub stands_first : (mailbox : MailboxModel) → ((sent : Sent) → sent.ticket ≡ ticket → GoesWith mailbox (Gave sent ∷ past)) → mailbox.errands ≡ get.mailbox.errands ++ Ask device ∷ []
+    pub stands_first : (mailbox : MailboxModel Errand) → ((sent : Sent) → sent.ticket ≡ ticket → GoesWith mailbox (Gave sent ∷ past)) → mailbox.errands ≡ get.mailbox.errands ++ Ask device ∷ []
         → mailbox.unread ≡ get.mailbox.unread → (findings : Findings) (object : Option ObjectModel) → findings ≡ begun_round
         → Stands (record get { findings = findings; object = object; mailbox = mailbox }) begun (Gave (record { ticket = ticket; device = device; msg = message.Ask get.subject.place }) ∷ past)
     stands_first mailbox goes_with errands unread findings object findings_are =

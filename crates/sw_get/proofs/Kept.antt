@@ -1,12 +1,12 @@
 -- What the rules of a round say of it, in the words of the causes.
-use Rattle.std.proofs.Common.{◌≡◌, inl, inr, ◌⊎◌, ℕ, ◌==◌, Bool, true, false, not, ◌&&◌, ◌||◌, Contains, ◌++◌, List, [], ◌∷◌, length, reverse, take, Option, Some, None, refl, sym, ap, subst, ◌∙◌, arith}
+use Rattle.std.proofs.Common.{◌≡◌, inl, inr, ◌⊎◌, ℕ, Bool, true, false, not, ◌&&◌, Contains, ◌++◌, List, [], ◌∷◌, length, reverse, take, Option, Some, None, refl, sym, ap, subst, ◌∙◌, arith}
 use Rattle.std.specs.Prelude.{if◌then◌else◌}
-use Rattle.std.specs.List.{All, find, list_any}
+use Rattle.std.specs.List.{All, list_any}
 use Rattle.std.proofs.Math.Seq.{take-length}
-use Rattle.std.proofs.lemmas.Bool.{and_parts, cases_Bool, cond-true, eq-eqb, eqb-true, lt-ltb, or_cases, true≢false}
+use Rattle.std.proofs.lemmas.Bool.{and_parts, cases_Bool, eqb-true, lt-ltb, or_cases, true≢false}
 use Rattle.std.proofs.lemmas.List.{length-map, reverse-append}
 use Rattle.std.proofs.lemmas.List.Elements.{All-contains, Contains-append_left, Contains-append_right}
-use Rattle.std.proofs.lemmas.Option.{none-some, same_Some, slice_get_within}
+use Rattle.std.proofs.lemmas.Option.{same_Some, slice_get_within}
 use Rattle.sw_types.specs.Policy.{PolicyModel}
 use Rattle.sw_hashdir.specs.Directory.{IsAbove}
 use Rattle.sw_hashdir.specs.declared.floor.Floor.{Floor}
@@ -26,14 +26,16 @@ use Rattle.sw_message.proofs.Highest.{above, above_lower, is_highest, neither_ab
 use Rattle.sw_get.specs.Causes.{AllAnswered, AreKept, AreShort, AreUsedUp, AreWanting, HasTarget, IsEventOf, IsLevel, ListsAt, WasLost, floors_before, floors_listed}
 use Rattle.sw_get.specs.Get.{AreTurns, Begun, Hears, IsBegun, IsNext, Round, Sends, Turn, ask_message, devices, event_of, events, facts_in, facts_of, fetch_message, from_in, going_in, heard, is_first, place_of, round_in, bringing, failing, lacking, wanted}
 use Rattle.sw_get.specs.Meaning.{Brings, Lacks, Lists, Meaning, Misses}
-use Rattle.sw_get.specs.Round.{Facts, all_devices, candidates, closed, firsts, has_index, is_free, is_open, is_taken, rises, same_target, target_of}
+use Rattle.sw_get.specs.Round.{Facts, all_devices, candidates, closed, is_free, is_open, is_taken, rises, target_of}
+use Rattle.sw_gather.specs.Choices.{firsts, has_index, same_target}
 use Rattle.sw_get.specs.declared.round_end.Going.TheVariants as going
 use Rattle.sw_get.specs.declared.round_end.KeptEvent.{KeptEvent}
 use Rattle.sw_get.specs.declared.round_end.KeptEvent.TheVariants.{Gone, Rose}
 use Rattle.sw_get.proofs.Changes.{none_open}
 use Rattle.sw_get.proofs.Goings.{AllTried, AreAllHeard, AreFetched, FewListed, KeepSays, NoneLeft, StaysAt, of_kind}
 use Rattle.sw_get.proofs.Indices.{are_indices, first_indices, in_candidates}
-use Rattle.sw_get.proofs.Lists.{first_or_later, here, in_filter}
+use Rattle.sw_gather.proofs.Sources.{same_source, self_same}
+use Rattle.sw_gather.proofs.Lists.{any_passes, first_or_later, here, in_filter, none_passes, some_passes}
 use Rattle.sw_get.proofs.Meanings.{never_lists}
 use Rattle.sw_get.proofs.Rounds.{WasAsked, WasFetched, all_handed, all_heard, handed_so, sends_of, sents}
 use Rattle.sw_get.proofs.Runs.{IsGoneOf, Keeps, all_kept, says}
@@ -127,47 +129,6 @@ module _ (begun : Begun) (past : List Step) (turns : List Turn) (told : All (IsT
   over : (meaning : Meaning) → Contains turns (Hears fetch meaning) → IsOver
   over meaning has = over_by meaning has (All-contains (IsTold begun past) turns (Hears fetch meaning) told has)
 
--- ---- sources that are not free
-
-same_source : (a b : Target) → same_target a b ≡ true → a ≡ b
-same_source a b is =
-    let both = and_parts (b.index == a.index) (b.device == a.device) is in
-    let indices = eqb-true b.index a.index both.0 in
-    let devices = eqb-true b.device a.device both.1 in
-    ap (λ n. record { index = n; device = a.device }) (sym indices) ∙ ap (λ n. record { index = b.index; device = n }) (sym devices)
-
-some_passes : {A : Type 0} (test : A → Bool) (xs : List A) → list_any test xs ≡ true → (x : A) × Contains xs x × (test x ≡ true)
-some_passes test [] is = absurd (cc)
-some_passes test (first ∷ xs) is = elim (or_cases (test first) (list_any test xs) is) [
-  | inl passes ↦ (first, here first xs, passes)
-  | inr later ↦ let one = some_passes test xs later in (one.0, Contains-cons one.0 first xs one.1, one.2)
-]
-
-any_passes : {A : Type 0} (test : A → Bool) (xs : List A) (x : A) → Contains xs x → test x ≡ true → list_any test xs ≡ true
-any_passes test [] x has passes = absurd (omega (arith, has.1))
-any_passes test (first ∷ xs) x has passes = elim (first_or_later first xs x has) [
-  | inl same ↦ ap (λ b. b || list_any test xs) (ap test same ∙ passes)
-  | inr later ↦ by_test (test first) (any_passes test xs x later passes)
-]
-  where
-    by_test : (b : Bool) → list_any test xs ≡ true → (b || list_any test xs) ≡ true
-    by_test true is = refl
-    by_test false is = is
-
-none_passes : {A : Type 0} (test : A → Bool) (xs : List A) (x : A) → find test xs ≡ None → Contains xs x → test x ≡ false
-none_passes test [] x none has = absurd (omega (arith, has.1))
-none_passes test (first ∷ xs) x none has = elim (cases_Bool (test first)) [
-  | inl passes ↦ absurd (none-some first (sym none ∙ cond-true (test first) (Some first) (find test xs) passes))
-  | inr fails ↦ elim (first_or_later first xs x has) [
-    | inl same ↦ ap test (sym same) ∙ fails
-    | inr later ↦ none_passes test xs x (by_test (test first) fails none) later
-  ]
-]
-  where
-    by_test : (b : Bool) → b ≡ false → (if b then Some first else find test xs) ≡ None → find test xs ≡ None
-    by_test true is none = absurd (cc)
-    by_test false is none = none
-
 -- ---- the end of a round
 
 module _ (begun : Begun) (valid : IsBegun begun) (past : List Step) (run : IsRun (IsNext begun) past) (turns : List Turn) (are : AreTurns begun past turns)
@@ -235,9 +196,6 @@ module _ (begun : Begun) (valid : IsBegun begun) (past : List Step) (run : IsRun
               | inr lost ↦ let shut = any_passes (same_target one.0) (closed known) one.0 lost.1 (self_same one.0) in absurd (true≢false (sym both.1 ∙ ap not shut))
             ]
       ]
-    where
-      self_same : (target : Target) → same_target target target ≡ true
-      self_same target = let a = eq-eqb target.index target.index refl in let b = eq-eqb target.device target.device refl in rw (a, b) refl
 
   spent : (stamp : ℕ) → target_of (from_in begun turns) known ≡ Some (durable_at stamp) → (source : Target) → is_free known source ≡ false → IsSpent stamp source
   spent stamp target source not_free = elim (cases_Bool (list_any (same_target source) known.tried)) [

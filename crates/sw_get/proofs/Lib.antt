@@ -1,4 +1,3 @@
-pub mod Candidates
 pub mod Changes
 pub mod Counts
 pub mod Endings
@@ -10,8 +9,6 @@ pub mod Handings
 pub mod Indices
 pub mod Joins
 pub mod Kept
-pub mod Lists
-pub mod Mailboxes
 pub mod Meanings
 pub mod Members
 pub mod Readings

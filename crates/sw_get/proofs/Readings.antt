@@ -13,7 +13,7 @@ use Rattle.sw_message.specs.declared.reply.Reply.TheVariants as reply
 use Rattle.sw_message.specs.declared.sent.Sent.{Sent}
 use Rattle.sw_message.specs.declared.target.Target.{Target}
 use Rattle.sw_get.specs.Get.{Begun, Hears, IsMeant, ask_message, fetch_message, shown_by, wanted}
-use Rattle.sw_get.specs.Mailbox.{MailboxModel, Unread}
+use Rattle.sw_gather.specs.Mailbox.{MailboxModel, Unread}
 use Rattle.sw_get.specs.Meaning.{Brings, IsFetched, IsRead, Lacks, Lists, Meaning, Misses, Wanted, asked_meaning, with_asked, with_fetched}
 use Rattle.sw_get.specs.Round.{Facts}
 use Rattle.sw_get.specs.Standing.{AreCounted, AreFindings, BeginsWith, Findings, GetModel, FindsObject, Stands, Subject, shown_gone}
@@ -25,7 +25,7 @@ use Rattle.sw_get.proofs.Findings.{finds-answered, finds-fetched}
 use Rattle.sw_get.proofs.Meanings.{asked_cases, never_lists}
 
 -- a get with another target, round and mailbox
-abbrev pub with_read : GetModel → Option Floor → Facts → Option ObjectModel → MailboxModel → GetModel
+abbrev pub with_read : GetModel → Option Floor → Facts → Option ObjectModel → MailboxModel Errand → GetModel
 with_read get target facts object mailbox = record get { findings = record get.findings { target = target; facts = facts }; object = object; mailbox = mailbox }
 
 -- a device's answer leaves what was brought
@@ -40,11 +40,11 @@ has-asked policy facts object device answer has =
 
 -- ---- the first answer that is to be read
 
-first_errand : List Unread → Option Errand
+first_errand : List (Unread Errand) → Option Errand
 first_errand [] = None
 first_errand (unread ∷ later) = Some unread.0
 
-pub begins : (unread : List Unread) (errand other : Errand) (answer : Option Reply) (rest : List Unread) → BeginsWith unread errand → unread ≡ (other, answer) ∷ rest → unread ≡ (errand, answer) ∷ rest
+pub begins : (unread : List (Unread Errand)) (errand other : Errand) (answer : Option Reply) (rest : List (Unread Errand)) → BeginsWith unread errand → unread ≡ (other, answer) ∷ rest → unread ≡ (errand, answer) ∷ rest
 unfolding first_errand
 begins unread errand other answer rest starts is =
     is ∙ ap (λ (one : Errand). (one, answer) ∷ rest) (same_Some other errand (sym (ap first_errand is) ∙ ap first_errand starts.2))
@@ -80,14 +80,14 @@ module _ (wanted : Wanted) (others : List ArchiveModel) (index : ℕ) (meaning :
 
 -- ---- the get
 
-module _ (get : GetModel) (begun : Begun) (past : List Step) (stands : Stands get begun past) (answer : Option Reply) (later : List Unread)
-    (target : Option Floor) (facts : Facts) (object : Option ObjectModel) (mailbox : MailboxModel) (mailbox_is : mailbox ≡ record get.mailbox { unread = later }) where
+module _ (get : GetModel) (begun : Begun) (past : List Step) (stands : Stands get begun past) (answer : Option Reply) (later : List (Unread Errand))
+    (target : Option Floor) (facts : Facts) (object : Option ObjectModel) (mailbox : MailboxModel Errand) (mailbox_is : mailbox ≡ record get.mailbox { unread = later }) where
   same : (others : Facts) (another : Option ObjectModel) → facts ≡ others → object ≡ another → Stands (with_read get target others another (record get.mailbox { unread = later })) begun past
       → Stands (with_read get target facts object mailbox) begun past
   same others another facts_is object_is stood =
       subst (λ these. Stands (with_read get target these object mailbox) begun past) (sym facts_is)
       (subst (λ it. Stands (with_read get target others it mailbox) begun past) (sym object_is)
-      (subst (λ (box : MailboxModel). Stands (with_read get target others another box) begun past) (sym mailbox_is) stood))
+      (subst (λ (box : MailboxModel Errand). Stands (with_read get target others another box) begun past) (sym mailbox_is) stood))
 
   pub stands_asked : (device : ℕ) → get.mailbox.unread ≡ (Ask device, answer) ∷ later → target ≡ highest_from get.findings.target (shown_by (asked_meaning answer))
       → facts ≡ with_asked get.findings.facts device (asked_meaning answer) → object ≡ get.object → Stands (with_read get target facts object mailbox) begun past

@@ -18,7 +18,8 @@ use Rattle.sw_message.specs.declared.spoil.Foreign.TheVariants as foreign
 use Rattle.sw_message.specs.declared.spoil.Spoil.{Spoil}
 use Rattle.sw_message.specs.declared.spoil.Spoil.TheVariants as spoil
 use Rattle.sw_message.specs.declared.target.Target.{Target}
-use Rattle.sw_get.specs.Meaning.{AreRight, Brings, IsFetched, IsJoined, IsRead, IsWanted, Lacks, Lists, Meaning, Misses, Wanted, with_fetched}
+use Rattle.sw_get.specs.Meaning.{Brings, IsFetched, IsJoined, IsRead, IsWanted, Lacks, Lists, Meaning, Misses, Wanted, with_fetched}
+use Rattle.sw_gather.specs.Gathered.{AreRight}
 use Rattle.sw_get.specs.Round.{HasObject, RoundModel}
 
 -- ---- what was told

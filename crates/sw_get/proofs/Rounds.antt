@@ -21,7 +21,7 @@ use Rattle.sw_get.specs.declared.round_end.Going.{Going}
 use Rattle.sw_get.specs.declared.round_end.Going.TheVariants as going
 use Rattle.sw_get.specs.declared.round_end.KeptEvent.{KeptEvent}
 use Rattle.sw_get.proofs.Counts.{within as answers_few}
-use Rattle.sw_get.proofs.Lists.{first_or_later, here, in_filter}
+use Rattle.sw_gather.proofs.Lists.{first_or_later, here, in_filter}
 use Rattle.sw_get.proofs.Runs.{Keeps, all_kept, numbers, says}
 use Rattle.sw_get.proofs.Sameness.{one_turns}
 use Rattle.sw_get.proofs.Turns.{all, ask_goes_on, begins, fetch_goes_on, now}

@@ -37,7 +37,7 @@ use Rattle.sw_get.proofs.Counts.{counted-answered, counted-ask, counted-fetch, c
 use Rattle.sw_get.proofs.Findings.{within-answered, within-ask, within-fetch, within-fetched, within-first}
 use Rattle.sw_get.proofs.Goings.{GoingSays, going_says}
 use Rattle.sw_get.proofs.Indices.{all_listed}
-use Rattle.sw_get.proofs.Lists.{zip-none, zip-push, zip-weaker}
+use Rattle.sw_gather.proofs.Lists.{zip-none, zip-push, zip-weaker}
 use Rattle.sw_get.proofs.Meanings.{AskedCases, asked_cases, never_lists}
 use Rattle.sw_get.proofs.Members.{asked_known, source-kept, source_known}
 use Rattle.sw_get.proofs.Sameness.{fragment_of, one_turns}

@@ -21,8 +21,9 @@ use Rattle.sw_message.specs.declared.spoil.Spoil.{Spoil}
 use Rattle.sw_message.specs.declared.spoil.Spoil.TheVariants as spoil
 use Rattle.sw_message.proofs.Spoils.{FaultLaw, asked_or_spoil, one_spoil_of}
 use Rattle.sw_get.specs.Get.{AreTurns, Begun, Hears, IsMeant, Round, Sends, Turn, facts_in, facts_of, is_first, round_in, wanted}
-use Rattle.sw_get.specs.Meaning.{AreRight, AreWrong, Brings, IsFetched, IsRead, IsWanted, Lacks, Lists, Meaning, Misses, Strays, Wanted}
-use Rattle.sw_get.proofs.Joins.{enough_from_k}
+use Rattle.sw_get.specs.Meaning.{Brings, IsFetched, IsRead, IsWanted, Lacks, Lists, Meaning, Misses, Wanted}
+use Rattle.sw_gather.specs.Gathered.{AreRight, AreWrong, Strays}
+use Rattle.sw_gather.proofs.Joins.{enough_from_k}
 use Rattle.sw_get.proofs.Meanings.{asked_cases}
 use Rattle.sw_get.proofs.Turns.{all, now}
 

@@ -21,7 +21,7 @@ use Rattle.sw_get.specs.Causes.{HasFloor, IsShown, Shows}
 use Rattle.sw_get.specs.Get.{AreTurns, Begun, Hears, IsMeant, Round, Sends, Turn, devices, facts_in, facts_of, floors_shown, from_in, is_first, listed_by, round_in, round_of, shown_by, wanted}
 use Rattle.sw_get.specs.Meaning.{Brings, IsFetched, Lacks, Lists, Meaning, Misses, asked_meaning}
 use Rattle.sw_get.specs.Round.{all_devices, target_of}
-use Rattle.sw_get.proofs.Lists.{first_or_later, here, none_in}
+use Rattle.sw_gather.proofs.Lists.{first_or_later, here, none_in}
 use Rattle.sw_get.proofs.Meanings.{asked_cases, never_lists}
 
 -- ---- the listing of an answer

@@ -26,7 +26,8 @@ use Rattle.sw_message.specs.declared.spoil.Spoil.{Spoil}
 use Rattle.sw_message.specs.declared.spoil.Spoil.TheVariants as spoil
 use Rattle.sw_message.specs.declared.target.Target.{Target}
 use Rattle.sw_get.specs.Get.{AreTurns, Begun, Hears, Sends, Turn, ask_message, devices, facts_in, fetch_message, floors_shown, round_in}
-use Rattle.sw_get.specs.Meaning.{Brings, Lacks, Lists, Meaning, Misses, Strays}
+use Rattle.sw_get.specs.Meaning.{Brings, Lacks, Lists, Meaning, Misses}
+use Rattle.sw_gather.specs.Gathered.{Strays}
 use Rattle.sw_get.specs.Round.{all_devices}
 use Rattle.sw_get.specs.declared.round_end.KeptEvent.{KeptEvent}
 use Rattle.sw_get.specs.declared.round_end.KeptEvent.TheVariants.{Gone, Rose}

@@ -1,10 +1,7 @@
 pub mod Causes
-pub mod Gathered
 pub mod Get
 pub mod GetInside
 pub mod Inside
-pub mod Mailbox
-pub mod MailboxInside
 pub mod Meaning
 pub mod Round
 pub mod Standing

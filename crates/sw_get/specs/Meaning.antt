@@ -1,11 +1,10 @@
 -- What the answer to a message of a get means, and what a round knows once it came.
-use Rattle.std.specs.Prelude.{◌≡◌, ◌⊎◌, ℕ, ◌+◌, Bool, true, false, List, [], ◌∷◌, ◌++◌, length, Option, Some, None}
+use Rattle.std.specs.Prelude.{◌≡◌, ℕ, ◌+◌, Bool, true, false, List, [], ◌∷◌, ◌++◌, Option, Some, None}
 use Rattle.sw_types.specs.Name.{NameModel}
-use Rattle.sw_types.specs.Object.{IsObject, ObjectModel}
 use Rattle.sw_types.specs.Policy.{PolicyModel}
 use Rattle.sw_hashdir.specs.Listing.{ListingModel}
 use Rattle.sw_archive.specs.Archive.{ArchiveModel, IsArchive}
-use Rattle.sw_archive.specs.Assemble.{IsNext, IsOther, IsTold}
+use Rattle.sw_archive.specs.Assemble.{IsNext}
 use Rattle.sw_message.specs.Miss.{miss_of}
 use Rattle.sw_message.specs.Spoil.{IsAsked, IsNamed, IsSpoilOf}
 use Rattle.sw_message.specs.declared.miss.Miss.{Miss}
@@ -15,6 +14,7 @@ use Rattle.sw_message.specs.declared.reply.Reply.TheVariants as reply
 use Rattle.sw_message.specs.declared.spoil.Foreign.TheVariants as foreign
 use Rattle.sw_message.specs.declared.spoil.Spoil.TheVariants as spoil
 use Rattle.sw_message.specs.declared.target.Target.{Target}
+use Rattle.sw_gather.specs.Gathered.{AreRight, Strays}
 use Rattle.sw_get.specs.Round.{Facts, HasObject, RoundModel}
 
 -- an answer tells what a device has, brings an archive, tells that it is not there, or is a miss
@@ -33,21 +33,6 @@ pub record Wanted : Type 0 where
 -- the bytes are the archive of an index that was asked for
 abbrev pub IsWanted : Wanted → ℕ → List ℕ → ArchiveModel → Type 0
 IsWanted wanted index bytes archive = IsArchive bytes archive × IsAsked (IsNamed wanted.name) wanted.policy wanted.stamp index archive
-
--- where k archives are together, they tell the MD5 of the body that they hold
-abbrev pub AreRight : PolicyModel → List ArchiveModel → Type 0
-AreRight policy archives = length archives ≡ policy.k → (object : ObjectModel) × IsObject object × IsTold archives object
-
--- they do not
-pub record AreWrong (policy : PolicyModel) (archives : List ArchiveModel) : Type 0 where
-  pub enough : length archives ≡ policy.k
-  pub told : List ℕ
-  pub computed : List ℕ
-  pub other : IsOther archives told computed
-
--- an archive is not of the object of those before it: it cannot stand beside them, or they tell another MD5 with it
-abbrev pub Strays : PolicyModel → List ArchiveModel → ArchiveModel → Type 0
-Strays policy others archive = (IsNext others archive → ⊥) ⊎ (IsNext others archive × AreWrong policy (others ++ archive ∷ []))
 
 -- what an archive that was asked for means, beside those before it
 abbrev pub IsJoined : PolicyModel → List ArchiveModel → ArchiveModel → Meaning → Type 0

@@ -1,19 +1,18 @@
 -- One round of a get: every device is asked, and then archives of the greatest floor's stamp are fetched.
-use Rattle.std.specs.Prelude.{◌≡◌, ℕ, ◌+◌, ◌==◌, Bool, true, false, not, ◌&&◌, ◌||◌, if◌then◌else◌, nat_lt, List, [], ◌∷◌, ◌++◌, filter, find, flat_map, length, map, slice_get, Option, Some, None}
+use Rattle.std.specs.Prelude.{◌≡◌, ℕ, ◌+◌, ◌==◌, Bool, true, false, not, ◌&&◌, ◌||◌, if◌then◌else◌, nat_lt, List, [], ◌∷◌, ◌++◌, find, flat_map, length, slice_get, Option, Some, None}
 use Rattle.std.specs.List.{list_any}
-use Rattle.sw_types.specs.Object.{IsObject, ObjectModel}
+use Rattle.sw_types.specs.Object.{ObjectModel}
 use Rattle.sw_types.specs.Policy.{PolicyModel}
 use Rattle.sw_hashdir.specs.Listing.{ListingModel}
-use Rattle.sw_hashdir.specs.declared.entry.Entry.{Entry}
 use Rattle.sw_hashdir.specs.declared.floor.Floor.{Floor}
 use Rattle.sw_hashdir.specs.declared.floor.FloorKind.{FloorKind}
 use Rattle.sw_hashdir.specs.declared.floor.FloorKind.TheVariants.{Durable, Tombstone}
 use Rattle.sw_archive.specs.Archive.{ArchiveModel}
-use Rattle.sw_archive.specs.Assemble.{IsTold}
 use Rattle.sw_message.specs.Floors.{floors_in, highest_from, is_above}
-use Rattle.sw_message.specs.Targets.{ascending}
 use Rattle.sw_message.specs.declared.miss.Miss.{Miss}
 use Rattle.sw_message.specs.declared.target.Target.{Target}
+use Rattle.sw_gather.specs.Choices.{choices_in, firsts, has_index, same_target}
+use Rattle.sw_gather.specs.Gathered.{IsThere}
 use Rattle.sw_get.specs.declared.round_end.Going.{Going}
 use Rattle.sw_get.specs.declared.round_end.Going.TheVariants.{Ask, End, Fetch, Keep, Wait}
 use Rattle.sw_get.specs.declared.round_end.KeptEvent.TheVariants.{Gone, Rose}
@@ -54,10 +53,6 @@ pub record RoundModel : Type 0 where
   pub object : Option ObjectModel
   pub has_room : Bool
 
--- an object is there, as the archives tell and hold it
-abbrev pub IsThere : List ArchiveModel → Option ObjectModel → Type 0
-IsThere archives object = (found : ObjectModel) × (object ≡ Some found) × IsObject found × IsTold archives found
-
 -- where k sources brought archives, the object is there
 abbrev pub HasObject : ℕ → RoundModel → Type 0
 HasObject k round = length round.facts.sources ≡ k → IsThere round.facts.archives round.object
@@ -79,31 +74,9 @@ rises (Some from) to = is_above to from
 
 -- ---- the candidates
 
--- an entry is of the stamp, durable or not, and its index is below the total
-abbrev pub is_listed : (total stamp : ℕ) → Entry → Bool
-is_listed total stamp entry = entry.stamp == stamp && nat_lt entry.index total
-
-abbrev pub entry_target : (device : ℕ) → Entry → Target
-entry_target device entry = record { index = entry.index; device = device }
-
--- where a listing shows such entries
-abbrev pub listed_at : (total stamp : ℕ) → ℕ × ListingModel → List Target
-listed_at total stamp one = map (entry_target one.0) (filter (is_listed total stamp) one.1.entries)
-
 -- the pairs of index and device that the listings show, ascending
 abbrev pub candidates : PolicyModel → ℕ → Facts → List Target
-candidates policy stamp facts = ascending (flat_map (listed_at (policy.k + policy.m) stamp) facts.lists)
-
-abbrev pub has_index : ℕ → Target → Bool
-has_index index target = target.index == index
-
-abbrev pub same_target : Target → Target → Bool
-same_target target other = other.index == target.index && other.device == target.device
-
--- the first candidate of each index
-abbrev pub firsts : List Target → List Target
-firsts [] = []
-firsts (target ∷ targets) = target ∷ filter (λ (other : Target). not (has_index target.index other)) (firsts targets)
+candidates policy stamp facts = choices_in (policy.k + policy.m) stamp facts.lists
 
 -- ---- fetches
 

@@ -20,8 +20,10 @@ use Rattle.sw_message.specs.declared.reply.Reply.{Reply}
 use Rattle.sw_message.specs.declared.reply.Reply.TheVariants as reply
 use Rattle.sw_message.specs.declared.sent.Sent.{Sent}
 use Rattle.sw_get.specs.Get.{AreTurns, Begun, IsBegun, IsEnd, IsNext, Turn, ask_message, count_ask, devices, events, facts_in, fetch_message, floors_shown, from_in, is_ask, place_of}
-use Rattle.sw_get.specs.Mailbox.{GoesWith, MailboxModel, Unread}
-use Rattle.sw_get.specs.Round.{Devices, Facts, IsThere, all_devices, candidates, firsts, lost, round_going, target_of}
+use Rattle.sw_gather.specs.Mailbox.{GoesWith, MailboxModel, Unread}
+use Rattle.sw_get.specs.Round.{Devices, Facts, all_devices, candidates, lost, round_going, target_of}
+use Rattle.sw_gather.specs.Gathered.{IsThere}
+use Rattle.sw_gather.specs.Choices.{firsts}
 use Rattle.sw_get.specs.declared.end.GetEnd.{GetEnd}
 use Rattle.sw_get.specs.declared.end.GetEnd.TheVariants as gets
 use Rattle.sw_get.specs.declared.errand.Errand.{Errand}
@@ -52,7 +54,7 @@ pub record GetModel : Type 0 where
   pub subject : Subject
   pub findings : Findings
   pub object : Option ObjectModel
-  pub mailbox : MailboxModel
+  pub mailbox : MailboxModel Errand
   pub end : Option GetEnd
 
 -- what it does next, once every answer was read
@@ -82,11 +84,11 @@ pub record IsOpen (begun : Begun) (errands : List Errand) (sent : Sent) : Type 0
   pub is : IsErrand begun errand sent
 
 -- the first answer that is to be read is that to an errand
-abbrev pub BeginsWith : List Unread → Errand → Type 0
-BeginsWith unread errand = (answer : Option Reply) × (later : List Unread) × (unread ≡ (errand, answer) ∷ later)
+abbrev pub BeginsWith : List (Unread Errand) → Errand → Type 0
+BeginsWith unread errand = (answer : Option Reply) × (later : List (Unread Errand)) × (unread ≡ (errand, answer) ∷ later)
 
 -- the answers that were not yet read, the first of them told first, lead from one transcript to another
-abbrev pub Lead : Begun → List Unread → List Step → List Step → Type 0
+abbrev pub Lead : Begun → List (Unread Errand) → List Step → List Step → Type 0
 Lead begun [] read past = past ≡ read
 Lead begun (unread ∷ later) read past = (sent : Sent) × IsErrand begun unread.0 sent × Lead begun later (Told sent unread.1 ∷ read) past
 
@@ -112,12 +114,12 @@ abbrev pub fetch_in : Errand → ℕ
 fetch_in (errand.Ask device) = 0
 fetch_in (errand.Fetch stamp source) = 1
 
-abbrev pub count_unread : (Errand → ℕ) → List Unread → ℕ
+abbrev pub count_unread : (Errand → ℕ) → List (Unread Errand) → ℕ
 count_unread count [] = 0
 count_unread count (unread ∷ later) = count_unread count later + count unread.0
 
 -- each question of the round, and each fetch, is answered, or its answer is not yet read, or it is open
-pub record AreCounted (facts : Facts) (unread : List Unread) (opened : List Sent) : Type 0 where
+pub record AreCounted (facts : Facts) (unread : List (Unread Errand)) (opened : List Sent) : Type 0 where
   pub asks : facts.answered + count_unread ask_in unread + count_opens count_ask opened ≡ facts.asked
   pub fetches : length facts.sources + lost facts + count_unread fetch_in unread + count_opens count_fetch opened ≡ length facts.tried
 
@@ -172,7 +174,7 @@ abbrev pub subject_of : Begun → Subject
 subject_of begun = record { policy = begun.cluster.policy; name = begun.name; place = place_of begun; devices = devices begun }
 
 -- it has ended, and nothing changes any more
-pub record HasEnded (begun : Begun) (past : List Step) (end : GetEnd) (unread : List Unread) : Type 0 where
+pub record HasEnded (begun : Begun) (past : List Step) (end : GetEnd) (unread : List (Unread Errand)) : Type 0 where
   pub is : IsEnd begun past end
   pub closed : opens past ≡ []
   pub read : unread ≡ []

@@ -2,12 +2,13 @@
 
 ghost use Rattle.std.specs.Prelude.{◌≡◌, ◌+◌, ◌++◌, ◌<◌, ◌^◌, IfOk, filter, find, if◌then◌else◌, length, nat_lt, slice_get};
 ghost use Rattle.sw_get.specs.declared.round_end.RoundEnd.TheVariants.{Absent, Unanswered};
-ghost use Rattle.sw_get.specs.Round.{asked_going, candidates, choices_going, fetch_going, fetch_or, few_going, firsts, is_free, is_open, is_taken, lost, next_source, ran_out, risen_or, round_going, target_going, target_of};
+ghost use Rattle.sw_get.specs.Round.{asked_going, candidates, choices_going, fetch_going, fetch_or, few_going, is_free, is_open, is_taken, lost, next_source, ran_out, risen_or, round_going, target_going, target_of};
+ghost use Rattle.sw_gather.specs.Choices.{firsts};
 
-use crate::choices::{candidates, firsts, has_index, has_target};
 use crate::round::Round;
 use crate::round_end::{Going, KeptEvent, RoundEnd};
 use std::alloc::Global;
+use sw_gather::{candidates, firsts, has_index, has_target};
 use sw_hashdir::{Floor, FloorKind};
 use sw_message::{Target, highest_with, is_above};
 use sw_types::{NoMemory, Policy};
@@ -218,7 +219,7 @@ impl Round {
     }
 
     // Whether an archive of an index was brought or is being fetched.
-    #[tactic(auto, using(crate::proofs::Candidates::any_filtered))]
+    #[tactic(auto, using(sw_gather::proofs::Choosing::any_filtered))]
     fn is_taken(&self, index: u32, opened: &[Target]) -> bool
         requires { opened.now ≡ filter (is_open self.now.facts) self.now.facts.tried }
         ensures { result ≡ is_taken self.now.facts index }

@@ -7,11 +7,12 @@ ghost use Rattle.sw_get.specs.Round.{all_devices};
 ghost use Rattle.sw_get.specs.Standing.{Stands};
 
 use crate::end::GetEnd;
-use crate::mailbox::Mailbox;
+use crate::errand::Errand;
 use crate::round::Round;
 use crate::round_end::KeptEvent;
 use std::alloc::Global;
 use std::marker::Model;
+use sw_gather::Mailbox;
 use sw_hashdir::Floor;
 use sw_hashpath::Place;
 use sw_message::{Reply, primaries};
@@ -31,7 +32,7 @@ pub struct GetOp {
     pub(crate) from: Option<Floor>,
     pub(crate) events: Vec<KeptEvent>,
     pub(crate) round: Round,
-    pub(crate) mailbox: Mailbox,
+    pub(crate) mailbox: Mailbox<Errand>,
     pub(crate) end: Option<GetEnd>,
 }
 

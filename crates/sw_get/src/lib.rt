@@ -1,15 +1,12 @@
 //! Gets, as operations: rounds of asking every device of a place, and of fetching archives of the newest stamp.
 #![tactic(auto)]
 
-mod choices;
 mod deciding;
 mod end;
 mod errand;
-mod gathered;
 mod get;
 mod hearing;
 mod laws;
-mod mailbox;
 mod operation;
 mod reading;
 mod round;

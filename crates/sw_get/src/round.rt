@@ -4,9 +4,9 @@ ghost use Rattle.std.specs.Prelude.{◌≡◌, ◌+◌, ◌<◌, ◌^◌, ◌++�
 ghost use Rattle.sw_get.specs.Meaning.{asked_meaning, with_asked};
 ghost use Rattle.sw_get.specs.Round.{no_facts};
 
-use crate::gathered::Gathered;
 use std::alloc::Global;
 use std::marker::Model;
+use sw_gather::Gathered;
 use sw_hashdir::Listing;
 use sw_message::{Miss, Reply, Target};
 use sw_types::{NoMemory, Object};

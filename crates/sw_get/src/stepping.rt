@@ -3,7 +3,7 @@
 ghost use Rattle.std.specs.Prelude.{◌≡◌, ◌<◌, ◌⊎◌, [], ◌∷◌, List, IfOk, MatchOption, OnErr, OnOk, None, IsTrue, is_some, length, true};
 ghost use Rattle.sw_message.specs.Transcript.{Gave, Over, Step, Wait, is_waiting};
 ghost use Rattle.sw_get.specs.Get.{Begun, IsNext, most_kept};
-ghost use Rattle.sw_get.specs.Mailbox.{IsOneMore};
+ghost use Rattle.sw_gather.specs.Mailbox.{IsOneMore};
 ghost use Rattle.sw_get.specs.Standing.{EndsWith, IsReady, MayHand, NeedsObject, Stands, going_of};
 ghost use Rattle.sw_get.specs.declared.round_end.Going.TheVariants as going;
 

@@ -2,7 +2,7 @@
 use Rattle.std.proofs.Common.{◌≡◌, ℕ, ◌==◌, true, ◌++◌, List, [], ◌∷◌, Option, Some, None, refl, sym, ◌∙◌, subst, rules}
 use Rattle.std.proofs.lemmas.Option.{none-some, same_Some}
 use Rattle.sw_ring.specs.Cluster.{ClusterModel}
-use Rattle.sw_message.specs.Learnt.{AreKnown, HasOwn, IsGenuine, Keeps, Learnt, Nothing, Own, OwnDelete, OwnPut}
+use Rattle.sw_message.specs.Learnt.{AreKnown, HasOwn, IsGenuine, IsSoundBook, Keeps, Learnt, Nothing, Own, OwnDelete, OwnPut}
 use Rattle.sw_message.specs.Running.{AreCalls, CountsLoss, Learns, MayRun, StillTells}
 use Rattle.sw_message.specs.Transcript.{Gave, Step, Told, opens, told}
 use Rattle.sw_message.specs.declared.link.Link as link
@@ -23,12 +23,12 @@ module _ (before after : Learnt) (keeps : Keeps before after) where
   genuine_kept cluster (reply.Fragment bytes) genuine = λ archive is. let found = genuine archive is in (found.0, keeps.book found.0 found.1, found.2)
   genuine_kept cluster other genuine = tt
 
-  known_kept : (cluster : ClusterModel) (past : List Step) → AreKnown cluster before past → AreKnown cluster after past
-  known_kept cluster [] known = tt
-  known_kept cluster (Gave sent ∷ past) known = known_kept cluster past known
-  known_kept cluster (Told sent None ∷ past) known = (tt, known_kept cluster past known.1)
-  known_kept cluster (Told sent (Some given) ∷ past) known =
-      ((λ other. keeps.heard _ (known.0.0 other), genuine_kept cluster given known.0.1), known_kept cluster past known.1)
+  known_kept : (cluster : ClusterModel) → IsSoundBook cluster.policy after.book → (past : List Step) → AreKnown cluster before past → AreKnown cluster after past
+  known_kept cluster sound [] known = sound
+  known_kept cluster sound (Gave sent ∷ past) known = known_kept cluster sound past known
+  known_kept cluster sound (Told sent None ∷ past) known = (tt, known_kept cluster sound past known.1)
+  known_kept cluster sound (Told sent (Some given) ∷ past) known =
+      ((λ other. keeps.heard _ (known.0.0 other), genuine_kept cluster given known.0.1), known_kept cluster sound past known.1)
 
 still_more : (sent : Sent) (answer : Option Reply) (of : Option ClusterModel) (first before after : Option Learnt) → Learns of before after sent.device sent.msg answer → StillTells first before → StillTells first after
 still_more sent answer of None None after learns still = learns
@@ -64,7 +64,7 @@ module _ (sent : Sent) (answer : Option Reply) (past : List Step) where
   known_more cluster own (Some of) (Some before) (Some after) learns same had other known is tells =
       let first = had of before refl refl in
       subst (λ (one : Learnt). HasOwn own one × AreKnown cluster one (Told sent answer ∷ Gave sent ∷ past)) (same_Some after known tells)
-      (own_kept before after learns.0 own first.0, (rw (same of refl) learns.1, known_kept before after learns.0 cluster past first.1))
+      (own_kept before after learns.0 own first.0, (rw (same of refl) learns.1, known_kept before after learns.0 cluster (rw (same of refl) learns.2) past first.1))
 
   may_run_more : (cluster : ClusterModel) (own : Own) (of of' : Option ClusterModel) (before after : Option Learnt) → of' ≡ of → Learns of before after sent.device sent.msg answer
       → MayRun cluster own past of before → MayRun cluster own (Told sent answer ∷ Gave sent ∷ past) of' after

@@ -2,8 +2,9 @@
 use Rattle.std.specs.Prelude.{◌≡◌, ◌≢◌, ℕ, List, [], ◌∷◌, Contains, Option, Some, None, ⊤}
 use Rattle.sw_types.specs.Name.{NameModel}
 use Rattle.sw_types.specs.Object.{ObjectModel}
+use Rattle.sw_types.specs.Policy.{PolicyModel}
 use Rattle.sw_archive.specs.Archive.{ArchiveModel, IsArchive}
-use Rattle.sw_archive.specs.Put.{put_fields}
+use Rattle.sw_archive.specs.Put.{IsPut, put_fields}
 use Rattle.sw_ring.specs.Cluster.{ClusterModel}
 use Rattle.sw_message.specs.Transcript.{Gave, Step, Told}
 use Rattle.sw_message.specs.declared.message.Msg.{Msg}
@@ -38,6 +39,11 @@ pub record Keeps (old new : Learnt) : Type 0 where
   pub marks : (marked : Marked) → Contains old.marks marked → Contains new.marks marked
   pub heard : (heard : Heard) → Contains old.heard heard → Contains new.heard heard
 
+-- the puts that were started: each keeps the bounds of what may be put, and no two have one stamp
+pub record IsSoundBook (policy : PolicyModel) (book : List Booked) : Type 0 where
+  pub puts : (booked : Booked) → Contains book booked → IsPut policy booked.stamp booked.name booked.object
+  pub one : (a b : Booked) → Contains book a → Contains book b → a.stamp ≡ b.stamp → a ≡ b
+
 -- ---- what an operation knows
 
 -- what an operation started itself
@@ -69,8 +75,8 @@ abbrev pub KnowsReply : ClusterModel → Learnt → ℕ → Msg → Option Reply
 KnowsReply cluster learnt device msg None = ⊤
 KnowsReply cluster learnt device msg (Some given) = IsHeard learnt device msg given × IsGenuine cluster learnt given
 
--- so are those of a transcript
+-- so are those of a transcript, and the puts that are known are sound
 abbrev pub AreKnown : ClusterModel → Learnt → List Step → Type 0
-AreKnown cluster learnt [] = ⊤
+AreKnown cluster learnt [] = IsSoundBook cluster.policy learnt.book
 AreKnown cluster learnt (Gave sent ∷ past) = AreKnown cluster learnt past
 AreKnown cluster learnt (Told sent answer ∷ past) = KnowsReply cluster learnt sent.device sent.msg answer × AreKnown cluster learnt past

@@ -4,7 +4,7 @@ use Rattle.sw_words.specs.Counts.{Rose}
 use Rattle.sw_types.specs.Name.{NameModel}
 use Rattle.sw_types.specs.Object.{ObjectModel}
 use Rattle.sw_ring.specs.Cluster.{ClusterModel}
-use Rattle.sw_message.specs.Learnt.{AreKnown, HasOwn, Keeps, KnowsReply, Learnt, Own}
+use Rattle.sw_message.specs.Learnt.{AreKnown, HasOwn, IsSoundBook, Keeps, KnowsReply, Learnt, Own}
 use Rattle.sw_message.specs.Message.{IsMember, IsPlaceOf, place_in}
 use Rattle.sw_message.specs.Transcript.{Gave, Step, Told, opens}
 use Rattle.sw_message.specs.declared.message.Msg.{Msg}
@@ -15,12 +15,12 @@ pub record IsOf (cluster : ClusterModel) (device : ℕ) (msg : Msg) : Type 0 whe
   pub member : IsMember cluster device
   pub place : IsPlaceOf cluster (place_in msg)
 
--- What a link has learnt by a call, where it tells. A link that tells has a cluster, and goes on telling.
+-- What a link has learnt by a call, where it tells. A link that tells has a cluster, and goes on telling; the puts that it has learnt are sound.
 abbrev pub Learns : Option ClusterModel → Option Learnt → Option Learnt → ℕ → Msg → Option Reply → Type 0
 Learns of None after device msg answer = after ≡ None
 Learns None (Some before) after device msg answer = ⊥
 Learns (Some cluster) (Some before) None device msg answer = ⊥
-Learns (Some cluster) (Some before) (Some after) device msg answer = Keeps before after × KnowsReply cluster after device msg answer
+Learns (Some cluster) (Some before) (Some after) device msg answer = Keeps before after × KnowsReply cluster after device msg answer × IsSoundBook cluster.policy after.book
 
 -- a link that told what it had learnt tells still, and keeps that; one that told nothing tells nothing
 abbrev pub StillTells : Option Learnt → Option Learnt → Type 0

@@ -47,11 +47,8 @@ run_keeps calls reason a b runs = told_capacity runs.steps runs.rest reason (sta
 kept : IsKept seen_of LeftBy KeepsCapacity
 kept = record { none = λ a. refl; more = λ a b c first second. second ∙ first; run = run_keeps }
 
-mounts_capacity : (cluster : ClusterModel) (device : ℕ) (fault : Option MountFault) (a b : MemDiskModel) → Mounts seen_of LeftBy cluster device fault a b → KeepsCapacity a b
+pub mounts_capacity : (cluster : ClusterModel) (device : ℕ) (fault : Option MountFault) (a b : MemDiskModel) → Mounts seen_of LeftBy cluster device fault a b → KeepsCapacity a b
 mounts_capacity cluster device fault a b mounts = mount_keeps seen_of LeftBy KeepsCapacity kept cluster device fault a b mounts.calls
-
-pub mounted_capacity : (cluster : ClusterModel) (device : ℕ) (a b : MemDiskModel) → Mounts seen_of LeftBy cluster device None a b → b.capacity ≡ a.capacity
-mounted_capacity cluster device a b mounts = mounts_capacity cluster device None a b mounts
 
 handled_capacity : (cluster : ClusterModel) (message : Msg) (reply : Reply) (a b : NodeModel MemDiskModel) → Handled seen_of LeftBy cluster message reply a b → b.disk.capacity ≡ a.disk.capacity
 handled_capacity cluster message reply a b handled =

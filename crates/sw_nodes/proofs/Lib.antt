@@ -1,6 +1,11 @@
 pub mod Alone
 pub mod Capacities
+pub mod Down
 pub mod Empty
 pub mod Finding
 pub mod Handling
 pub mod Making
+pub mod Mounting
+pub mod Placing
+pub mod Replacing
+pub mod Restarting

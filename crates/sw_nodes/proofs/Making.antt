@@ -1,10 +1,12 @@
 -- The nodes of some first devices, each on an empty disk.
 use Rattle.std.proofs.Common.{◌≡◌, ◌≢◌, ℕ, ◌==◌, Bool, true, false, List, [], ◌∷◌, ◌++◌, get_or, map, Some, refl, sym, ap, ◌∙◌, arith}
-use Rattle.std.specs.List.{All, AllPairs, find, slice_get}
+use Rattle.std.specs.List.{All, AllPairs, find, position, slice_get}
+use Rattle.std.proofs.lemmas.Bool.{eqb-true}
 use Rattle.std.proofs.lemmas.List.{get_or-map, length-map, map-append}
 use Rattle.std.proofs.lemmas.List.Elements.{All-append, All-cons, All-nil, All-head, All-tail}
 use Rattle.std.proofs.lemmas.List.Kept.{AllPairs-from_increasing}
-use Rattle.std.proofs.lemmas.Option.{get_or_from_slice_get, slice_get_within}
+use Rattle.std.proofs.lemmas.List.Quantifiers.{position-Some}
+use Rattle.std.proofs.lemmas.Option.{get_or_from_slice_get, slice_get-get_or, slice_get_within}
 use Rattle.sw_diskfile.proofs.Lists.{Contains-map}
 use Rattle.sw_memdisk.specs.Memory.{seen_of, state_of}
 use Rattle.sw_ring.specs.Cluster.{ClusterModel, KeepsRules, ids_of}
@@ -14,7 +16,7 @@ use Rattle.sw_message.specs.Message.{IsMember}
 use Rattle.sw_objsrv.specs.Handling.{folders_of}
 use Rattle.sw_objsrv.specs.Node.{IsNode}
 use Rattle.sw_scene.specs.Devices.{capacity_in, capacity_of}
-use Rattle.sw_nodes.specs.Nodes.{AreNodes, MemNode, devices_of, files_at}
+use Rattle.sw_nodes.specs.Nodes.{AreNodes, IsSettledDisk, MemNode, devices_of, files_at}
 use Rattle.sw_nodes.proofs.Finding.{find_at}
 
 -- a node of the cluster as it is made
@@ -22,6 +24,7 @@ pub record IsFresh (cluster : ClusterModel) (node : MemNode) : Type 0 where
   pub is_node : IsNode cluster seen_of node
   pub capacity : node.disk.capacity ≡ capacity_of cluster node.device
   pub mounted : node.is_due ≡ false
+  pub settled : IsSettledDisk node.disk
   pub empty : (name : List ℕ) → folders_of (state_of node.disk) name ≡ []
 
 pub record AreMade (cluster : ClusterModel) (devices : List Device) (nodes : List MemNode) : Type 0 where
@@ -51,13 +54,14 @@ all_empty cluster (node ∷ nodes) fresh id name = pick (node.device == id) refl
     pick false is rest = rw is rest
 
 -- they are the nodes of the cluster
-pub are_made : (cluster : ClusterModel) → KeepsRules cluster → (nodes : List MemNode) → AreMade cluster cluster.devices nodes → AreNodes (record { cluster = cluster; nodes = nodes; is_wanting = false })
+pub are_made : (cluster : ClusterModel) → KeepsRules cluster → (nodes : List MemNode) → AreMade cluster cluster.devices nodes → AreNodes (record { cluster = cluster; nodes = nodes; down = []; lost = 0; is_wanting = false })
 are_made cluster rules nodes made = record {
   rules = rules;
   each = made.each;
   are = λ k d within. (made.fresh k d within).is_node;
   capacities = λ k d within. (made.fresh k d within).capacity;
   mounted = λ goes k d within. (made.fresh k d within).mounted;
+  settled = λ goes k d within. (made.fresh k d within).settled;
 }
 
 -- ---- a device of the cluster
@@ -76,3 +80,9 @@ module _ (cluster : ClusterModel) (rules : KeepsRules cluster) (place : ℕ) (de
           let first : get_or (ids_of cluster) i d.id ≡ (get_or cluster.devices i d).id = get_or-map (λ (d : Device). d.id) cluster.devices i d d.id (omega arith) in
           let second : get_or (ids_of cluster) j d.id ≡ (get_or cluster.devices j d).id = get_or-map (λ (d : Device). d.id) cluster.devices j d d.id within in
           omega arith
+
+-- one that was found by its id
+pub capacity_found : (cluster : ClusterModel) → KeepsRules cluster → (id place : ℕ) (d : Device) → position (λ (other : Device). other.id == id) cluster.devices ≡ Some place → (get_or cluster.devices place d).capacity ≡ capacity_of cluster id
+capacity_found cluster rules id place d found =
+    let at = position-Some (λ (other : Device). other.id == id) cluster.devices place d found in
+    capacity_is cluster rules place (get_or cluster.devices place d) (slice_get-get_or cluster.devices place d at.0) ∙ ap (capacity_of cluster) (eqb-true (get_or cluster.devices place d).id id at.1)

@@ -1,4 +1,4 @@
-//! The nodes of a cluster in one process, on disks in memory, as a link that loses nothing.
+//! The nodes of a cluster in one process, on disks in memory, as a link that loses what goes to devices that are down.
 #![tactic(auto)]
 
 mod nodes;

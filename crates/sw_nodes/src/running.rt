@@ -3,20 +3,23 @@
 ghost use Rattle.std.specs.Prelude.{◌≡◌, List, [], OnOk, false, true};
 ghost use Rattle.sw_message.specs.Transcript.{Over, Step};
 ghost use Rattle.sw_scene.specs.Running.{AreHandled};
+ghost use Rattle.sw_ring.specs.Ring.{is_among};
 ghost use Rattle.sw_nodes.specs.Nodes.{devices_of};
 
 use crate::nodes::Nodes;
 use sw_message::{Operation, run};
 use sw_types::NoMemory;
 
-/// Runs an operation that has handed out nothing to its end, over all nodes of its cluster. Want of memory is also that of a node.
-pub fn run_alone<P: Operation>(op: &mut P, nodes: &mut Nodes) -> Result<(), NoMemory>
+/// Runs an operation that has handed out nothing to its end, over all nodes of its cluster, of which some may be down. Want of memory is
+/// also that of a node.
+pub fn run_alone<P: Operation>(op: &mut P, nodes: &mut Nodes<'_>) -> Result<(), NoMemory>
     requires begun { (begun : P.Begun) × P.stands op.old begun [] × (P.cluster begun ≡ nodes.old.cluster) }
     ensures runs { (begun : P.Begun) → P.stands op.old begun [] → P.cluster begun ≡ nodes.old.cluster → OnOk result ((past : List Step)
-        × P.stands op.new begun past × P.machine begun past Over × AreHandled nodes.old.cluster (devices_of nodes.old.nodes) past (devices_of nodes.new.nodes)) }
+        × P.stands op.new begun past × P.machine begun past Over × AreHandled nodes.old.cluster (is_among nodes.old.down) (devices_of nodes.old.nodes) past (devices_of nodes.new.nodes)) }
     ensures ended { OnOk result (P.has_ended op.new ≡ true) }
     ensures goes_on { OnOk result (nodes.new.is_wanting ≡ false) }
     ensures cluster { nodes.new.cluster ≡ nodes.old.cluster }
+    ensures down { nodes.new.down ≡ nodes.old.down }
 {
     run(op, nodes)?;
     if nodes.is_wanting() {

@@ -1,11 +1,14 @@
 -- Each event leaves a sound world sound, and what a get finds in one is one put's.
-use Rattle.std.proofs.Common.{◌≡◌, inl, inr, ⊎_elim, ℕ, zero, suc, ◌<◌, ◌≤◌, Bool, true, false, List, [], ◌∷◌, ◌++◌, length, Contains, Option, None, Some, refl, sym, ap, subst, ◌∙◌, arith}
-use Rattle.std.proofs.lemmas.List.Elements.{Contains-append_cases, Contains-append_left, Contains-append_right}
+use Rattle.std.proofs.Common.{◌≡◌, ◌≢◌, inl, inr, ⊎_elim, ℕ, zero, suc, ◌<◌, ◌≤◌, Bool, true, false, List, [], ◌∷◌, ◌++◌, length, Contains, Option, None, Some, refl, sym, ap, subst, ◌∙◌, arith}
+use Rattle.std.specs.List.{All}
+use Rattle.std.proofs.lemmas.Bool.{cases_eq}
+use Rattle.std.proofs.lemmas.List.Elements.{All-nil, Contains-append_cases, Contains-append_left, Contains-append_right}
 use Rattle.sw_types.specs.Name.{NameModel}
 use Rattle.sw_types.specs.Object.{ObjectModel}
+use Rattle.sw_hashpath.specs.Place.{folder_of}
 use Rattle.sw_archive.specs.Put.{IsPut}
 use Rattle.sw_ring.specs.Cluster.{ClusterModel}
-use Rattle.sw_message.specs.Learnt.{Booked}
+use Rattle.sw_message.specs.Learnt.{Booked, IsSoundBook}
 use Rattle.sw_message.specs.Transcript.{Step}
 use Rattle.sw_message.specs.declared.target.Target.{Target}
 use Rattle.sw_get.specs.Causes.{IsPutFound}
@@ -13,8 +16,9 @@ use Rattle.sw_get.specs.Get.{IsEnd, IsNext}
 use Rattle.sw_get.specs.declared.end.GetEnd.{GetEnd}
 use Rattle.sw_get.specs.declared.end.GetEnd.TheVariants as gets
 use Rattle.sw_scene.specs.Devices.{Devices}
-use Rattle.sw_scene.specs.Filed.{AreFiled, IsSoundBook}
+use Rattle.sw_scene.specs.Filed.{AreFiled, IsFiled}
 use Rattle.sw_scene.specs.Running.{RunsAlone, learnt_of}
+use Rattle.sw_scene.proofs.Filed.{same_filed}
 use Rattle.sw_core.proofs.Operations.{delete-alone, found-put, get-alone, put-alone}
 use Rattle.sw_script.specs.declared.event.Event.{Event}
 use Rattle.sw_script.specs.declared.event.Event.TheVariants as event
@@ -57,6 +61,14 @@ more_filed cluster book more devices filed = λ device place is_place k d within
       index_below = was.index_below;
       archive = was.archive;
     }
+
+-- one device has no file any more
+emptied_filed : (cluster : ClusterModel) (book : List Booked) (device : ℕ) (before after : Devices) → ((name : List ℕ) → after device name ≡ []) → ((other : ℕ) → other ≢ device → (name : List ℕ) → after other name ≡ before other name)
+    → AreFiled cluster book before → AreFiled cluster book after
+emptied_filed cluster book device before after empty others filed = λ other place is_place. ⊎_elim
+    (λ same. subst (All (IsFiled cluster book place)) (sym (ap (λ (id : ℕ). after id (folder_of place)) same ∙ empty (folder_of place))) (All-nil (IsFiled cluster book place)))
+    (λ differs. subst (All (IsFiled cluster book place)) (sym (others other differs (folder_of place))) (filed other place is_place))
+    (cases_eq other device)
 
 module _ (cluster : ClusterModel) (before : World) (sound : IsSound cluster before) (name : NameModel) (object : ObjectModel) (is_put : IsPut cluster.policy (next_stamp before.last) name object) where
   abbrev new_put : Booked
@@ -101,7 +113,7 @@ module _ (cluster : ClusterModel) (before : World) (sound : IsSound cluster befo
         rules = sound.rules;
         book = book;
         drawn = drawn_with cluster before sound name object does.is_put;
-        filed = put-alone (put_of cluster before name object) with_it before.devices after.devices past (record { rules = sound.rules }) book (Contains-append_right before.book (booked ∷ []) booked (itself booked))
+        filed = put-alone (put_of cluster before name object) with_it before.down before.devices after.devices past (record { rules = sound.rules }) book (Contains-append_right before.book (booked ∷ []) booked (itself booked))
             (more_filed cluster before.book (booked ∷ []) before.devices sound.filed) does.ran.runs;
       })
 
@@ -110,7 +122,7 @@ module _ (cluster : ClusterModel) (before : World) (sound : IsSound cluster befo
     rules = sound.rules;
     book = sound.book;
     drawn = λ booked there. drawn_later before.last booked.stamp (sound.drawn booked there);
-    filed = delete-alone (record { cluster = cluster; stamp = next_stamp before.last; name = name }) before.book before.devices after.devices past (record { rules = sound.rules }) sound.book sound.filed does.ran.runs;
+    filed = delete-alone (record { cluster = cluster; stamp = next_stamp before.last; name = name }) before.book before.down before.devices after.devices past (record { rules = sound.rules }) sound.book sound.filed does.ran.runs;
   })
 
   after_get : (name : NameModel) (is_head : Bool) → DoesGet cluster before name is_head past told after → IsSound cluster after
@@ -118,7 +130,7 @@ module _ (cluster : ClusterModel) (before : World) (sound : IsSound cluster befo
     rules = sound.rules;
     book = sound.book;
     drawn = sound.drawn;
-    filed = get-alone (get_of cluster name) before.book before.devices after.devices past (record { rules = sound.rules }) sound.book sound.filed does.ran.runs;
+    filed = get-alone (get_of cluster name) before.book before.down before.devices after.devices past (record { rules = sound.rules }) sound.book sound.filed does.ran.runs;
   })
 
   after_job : (run : Job) → DoesEvent cluster before (event.Run run) past told after → IsSound cluster after
@@ -136,9 +148,11 @@ module _ (cluster : ClusterModel) (before : World) (sound : IsSound cluster befo
   sound_after (event.Deliver message) does = absurd does
   sound_after event.All does = absurd does
   sound_after (event.Crash message calls pick) does = absurd does
-  sound_after (event.Stop device) does = absurd does
-  sound_after (event.Restart device) does = absurd does
-  sound_after (event.Lose device) does = absurd does
+  sound_after (event.Stop device) does = subst (IsSound cluster) (sym does.after_is) (record { rules = sound.rules; book = sound.book; drawn = sound.drawn; filed = sound.filed })
+  sound_after (event.Restart device) does = subst (IsSound cluster) (sym does.after_is)
+      (record { rules = sound.rules; book = sound.book; drawn = sound.drawn; filed = same_filed cluster before.book before.devices after.devices does.same sound.filed })
+  sound_after (event.Lose device) does = subst (IsSound cluster) (sym does.after_is)
+      (record { rules = sound.rules; book = sound.book; drawn = sound.drawn; filed = emptied_filed cluster before.book device before.devices after.devices does.empty does.others sound.filed })
   sound_after (event.GiveUp operation) does = absurd does
   sound_after (event.SetClock stamp) does = absurd does
 
@@ -153,10 +167,10 @@ module _ (cluster : ClusterModel) (before : World) (sound : IsSound cluster befo
   abbrev SaysOnePut : Event → (ℕ → ObjectModel → List Target → Type 0)
   SaysOnePut done stamp object sources = (name : NameModel) × IsOfName done name × IsPutFound (get_of cluster name) past (learnt_of before.book before.marks past) stamp object sources
 
-  found_by : (done : Event) (name : NameModel) → IsOfName done name → RunsAlone cluster (IsNext (get_of cluster name)) before.devices past after.devices → (end : GetEnd) → IsEnd (get_of cluster name) past end
+  found_by : (done : Event) (name : NameModel) → IsOfName done name → RunsAlone cluster before.down (IsNext (get_of cluster name)) before.devices past after.devices → (end : GetEnd) → IsEnd (get_of cluster name) past end
       → IfFound end (SaysOnePut done)
   found_by done name named runs (gets.Found stamp object sources) ends =
-      (name, named, found-put (get_of cluster name) before.book before.marks before.devices after.devices past (record { rules = sound.rules }) sound.book sound.filed runs stamp object sources ends)
+      (name, named, found-put (get_of cluster name) before.book before.marks before.down before.devices after.devices past (record { rules = sound.rules }) sound.book sound.filed runs stamp object sources ends)
   found_by done name named runs gets.Absent ends = tt
   found_by done name named runs (gets.Buried stamp) ends = tt
   found_by done name named runs (gets.Unanswered misses) ends = tt
@@ -186,9 +200,9 @@ module _ (cluster : ClusterModel) (before : World) (sound : IsSound cluster befo
   tells (event.Deliver message) does line there = absurd does
   tells event.All does line there = absurd does
   tells (event.Crash message calls pick) does line there = absurd does
-  tells (event.Stop device) does line there = absurd does
-  tells (event.Restart device) does line there = absurd does
-  tells (event.Lose device) does line there = absurd does
+  tells (event.Stop device) does line there = absurd (no_lines line (ap (λ (t : Told). t.ends) does.quiet.nothing_told) there)
+  tells (event.Restart device) does line there = absurd (no_lines line (ap (λ (t : Told). t.ends) does.quiet.nothing_told) there)
+  tells (event.Lose device) does line there = absurd (no_lines line (ap (λ (t : Told). t.ends) does.quiet.nothing_told) there)
   tells (event.GiveUp operation) does line there = absurd does
   tells (event.SetClock stamp) does line there = absurd does
 

@@ -1,5 +1,5 @@
 -- The world of a script, in which one operation runs after the other: what each event does to it, and what is told.
-use Rattle.std.specs.Prelude.{◌≡◌, ℕ, ◌+◌, ◌≤◌, Bool, true, false, max, if◌then◌else◌, List, [], ◌∷◌, ◌++◌, Contains, Option, Some, None}
+use Rattle.std.specs.Prelude.{◌≡◌, ◌≢◌, ℕ, ◌+◌, ◌≤◌, ◌==◌, Bool, true, false, not, ◌&&◌, ◌||◌, max, if◌then◌else◌, List, [], ◌∷◌, ◌++◌, Contains, Option, Some, None}
 use Rattle.sw_words.specs.Counts.{one_more}
 use Rattle.sw_types.specs.Name.{NameModel}
 use Rattle.sw_types.specs.Object.{ObjectModel}
@@ -8,14 +8,14 @@ use Rattle.sw_hashpath.specs.Place.{folder_of}
 use Rattle.sw_archive.specs.Put.{IsPut}
 use Rattle.sw_ring.specs.Cluster.{ClusterModel, KeepsRules, ids_of, place_of_name}
 use Rattle.sw_ring.specs.Ring.{is_among}
-use Rattle.sw_message.specs.Learnt.{Booked, Marked}
+use Rattle.sw_message.specs.Learnt.{Booked, IsSoundBook, Marked}
 use Rattle.sw_message.specs.Transcript.{Next, Step}
 use Rattle.sw_delete.specs.Delete as deletes
 use Rattle.sw_get.specs.Get as gets
 use Rattle.sw_get.specs.declared.end.GetEnd.{GetEnd}
 use Rattle.sw_put.specs.Put as puts
-use Rattle.sw_scene.specs.Devices.{Devices, no_files}
-use Rattle.sw_scene.specs.Filed.{AreFiled, IsSoundBook}
+use Rattle.sw_scene.specs.Devices.{AreSame, Devices, no_files}
+use Rattle.sw_scene.specs.Filed.{AreFiled}
 use Rattle.sw_scene.specs.Running.{RunsAlone}
 use Rattle.sw_script.specs.declared.event.Event.{Event}
 use Rattle.sw_script.specs.declared.event.Event.TheVariants as event
@@ -30,6 +30,8 @@ use Rattle.sw_play.specs.Show.{IsShown}
 
 pub record World : Type 0 where
   pub devices : Devices
+  -- which devices are down
+  pub down : ℕ → Bool
   -- the last stamp that was drawn
   pub last : Option ℕ
   -- how many operations were started
@@ -38,9 +40,12 @@ pub record World : Type 0 where
   pub book : List Booked
   pub marks : List Marked
 
--- nothing was started, and no device has a file
+abbrev pub none_down : ℕ → Bool
+none_down device = false
+
+-- nothing was started, no device has a file, and all are up
 abbrev pub empty_world : World
-empty_world = record { devices = no_files; last = None; operations = 0; book = []; marks = [] }
+empty_world = record { devices = no_files; down = none_down; last = None; operations = 0; book = []; marks = [] }
 
 -- ---- stamps
 
@@ -86,28 +91,29 @@ get_of cluster name = record { cluster = cluster; name = name }
 abbrev pub gets_as : Bool → GetEnd → OpEnd
 gets_as is_head end = if is_head then Head end else Get end
 
--- An operation of some machine ran alone, and its end was told as that of the operation of this number.
-pub record RanTo {E : Type 0} (cluster : ClusterModel) (machine : List Step → Next → Type 0) (Ends : List Step → E → Type 0) (as_end : E → OpEnd) (operation : ℕ) (before : Devices) (past : List Step) (told : Told) (after : Devices) : Type 0 where
-  pub runs : RunsAlone cluster machine before past after
+-- An operation of some machine ran alone while these devices were down, and its end was told as that of the operation of this number.
+pub record RanTo {E : Type 0} (cluster : ClusterModel) (down : ℕ → Bool) (machine : List Step → Next → Type 0) (Ends : List Step → E → Type 0) (as_end : E → OpEnd) (operation : ℕ) (before : Devices) (past : List Step) (told : Told) (after : Devices) : Type 0 where
+  pub runs : RunsAlone cluster down machine before past after
   pub end : E
   pub ends : Ends past end
   pub told_is : told ≡ ended operation (as_end end)
 
-abbrev pub RanPut : puts.Begun → (operation : ℕ) → (before : Devices) → List Step → Told → (after : Devices) → Type 0
-RanPut begun operation before past told after = RanTo begun.cluster (puts.IsNext begun) (λ steps end. puts.put_end begun steps ≡ Some end) Put operation before past told after
+abbrev pub RanPut : puts.Begun → (down : ℕ → Bool) → (operation : ℕ) → (before : Devices) → List Step → Told → (after : Devices) → Type 0
+RanPut begun down operation before past told after = RanTo begun.cluster down (puts.IsNext begun) (λ steps end. puts.put_end begun steps ≡ Some end) Put operation before past told after
 
-abbrev pub RanDelete : deletes.Begun → (operation : ℕ) → (before : Devices) → List Step → Told → (after : Devices) → Type 0
-RanDelete begun operation before past told after = RanTo begun.cluster (deletes.IsNext begun) (λ steps end. deletes.delete_end begun steps ≡ Some end) Delete operation before past told after
+abbrev pub RanDelete : deletes.Begun → (down : ℕ → Bool) → (operation : ℕ) → (before : Devices) → List Step → Told → (after : Devices) → Type 0
+RanDelete begun down operation before past told after = RanTo begun.cluster down (deletes.IsNext begun) (λ steps end. deletes.delete_end begun steps ≡ Some end) Delete operation before past told after
 
-abbrev pub RanGet : gets.Begun → (GetEnd → OpEnd) → (operation : ℕ) → (before : Devices) → List Step → Told → (after : Devices) → Type 0
-RanGet begun as_end operation before past told after = RanTo begun.cluster (gets.IsNext begun) (gets.IsEnd begun) as_end operation before past told after
+abbrev pub RanGet : gets.Begun → (down : ℕ → Bool) → (GetEnd → OpEnd) → (operation : ℕ) → (before : Devices) → List Step → Told → (after : Devices) → Type 0
+RanGet begun down as_end operation before past told after = RanTo begun.cluster down (gets.IsNext begun) (gets.IsEnd begun) as_end operation before past told after
 
 pub record DoesPut (cluster : ClusterModel) (before : World) (name : NameModel) (object : ObjectModel) (past : List Step) (told : Told) (after : World) : Type 0 where
   pub spare : next_stamp before.last ≤ greatest_stamp
   pub is_put : IsPut cluster.policy (next_stamp before.last) name object
-  pub ran : RanPut (put_of cluster before name object) (one_more before.operations) before.devices past told after.devices
+  pub ran : RanPut (put_of cluster before name object) before.down (one_more before.operations) before.devices past told after.devices
   pub after_is : after ≡ record {
     devices = after.devices;
+    down = before.down;
     last = Some (next_stamp before.last);
     operations = one_more before.operations;
     book = before.book ++ record { stamp = next_stamp before.last; name = name; object = object } ∷ [];
@@ -116,9 +122,10 @@ pub record DoesPut (cluster : ClusterModel) (before : World) (name : NameModel) 
 
 pub record DoesDelete (cluster : ClusterModel) (before : World) (name : NameModel) (past : List Step) (told : Told) (after : World) : Type 0 where
   pub spare : next_stamp before.last ≤ greatest_stamp
-  pub ran : RanDelete (delete_of cluster before name) (one_more before.operations) before.devices past told after.devices
+  pub ran : RanDelete (delete_of cluster before name) before.down (one_more before.operations) before.devices past told after.devices
   pub after_is : after ≡ record {
     devices = after.devices;
+    down = before.down;
     last = Some (next_stamp before.last);
     operations = one_more before.operations;
     book = before.book;
@@ -126,7 +133,7 @@ pub record DoesDelete (cluster : ClusterModel) (before : World) (name : NameMode
   }
 
 pub record DoesGet (cluster : ClusterModel) (before : World) (name : NameModel) (is_head : Bool) (past : List Step) (told : Told) (after : World) : Type 0 where
-  pub ran : RanGet (get_of cluster name) (gets_as is_head) (one_more before.operations) before.devices past told after.devices
+  pub ran : RanGet (get_of cluster name) before.down (gets_as is_head) (one_more before.operations) before.devices past told after.devices
   pub after_is : after ≡ record before { devices = after.devices; operations = one_more before.operations }
 
 -- what the device has in the folder of the name is told
@@ -135,6 +142,31 @@ pub record DoesShow (cluster : ClusterModel) (before : World) (device : ℕ) (na
   pub no_ends : told.ends ≡ []
   pub shown : IsShown device (before.devices device (folder_of (place_of_name cluster name))) told.shown
   pub after_is : after ≡ before
+
+-- nothing is sent, and nothing told
+pub record IsQuiet (past : List Step) (told : Told) : Type 0 where
+  pub no_steps : past ≡ []
+  pub nothing_told : told ≡ record { ends = []; shown = [] }
+
+-- A device is down from now on. Nothing is pending on its disk, so that the disk is left as it is.
+pub record DoesStop (before : World) (device : ℕ) (past : List Step) (told : Told) (after : World) : Type 0 where
+  pub quiet : IsQuiet past told
+  pub down : (other : ℕ) → after.down other ≡ (before.down other || other == device)
+  pub after_is : after ≡ record before { down = after.down }
+
+-- It is up from now on, and has what it had.
+pub record DoesRestart (before : World) (device : ℕ) (past : List Step) (told : Told) (after : World) : Type 0 where
+  pub quiet : IsQuiet past told
+  pub down : (other : ℕ) → after.down other ≡ (before.down other && not (other == device))
+  pub same : AreSame before.devices after.devices
+  pub after_is : after ≡ record before { devices = after.devices; down = after.down }
+
+-- It has no file from now on, and is up or down as it was.
+pub record DoesLose (before : World) (device : ℕ) (past : List Step) (told : Told) (after : World) : Type 0 where
+  pub quiet : IsQuiet past told
+  pub empty : (name : List ℕ) → after.devices device name ≡ []
+  pub others : (other : ℕ) → other ≢ device → (name : List ℕ) → after.devices other name ≡ before.devices other name
+  pub after_is : after ≡ record before { devices = after.devices }
 
 abbrev pub DoesJob : ClusterModel → World → Job → List Step → Told → World → Type 0
 DoesJob cluster before (job.Put name object) past told after = DoesPut cluster before name object past told after
@@ -147,6 +179,9 @@ DoesJob cluster before (job.Recon device name) past told after = ⊥
 abbrev pub DoesEvent : ClusterModel → World → Event → List Step → Told → World → Type 0
 DoesEvent cluster before (event.Run job) past told after = DoesJob cluster before job past told after
 DoesEvent cluster before (event.Show device name) past told after = DoesShow cluster before device name past told after
+DoesEvent cluster before (event.Stop device) past told after = DoesStop before device past told after
+DoesEvent cluster before (event.Restart device) past told after = DoesRestart before device past told after
+DoesEvent cluster before (event.Lose device) past told after = DoesLose before device past told after
 DoesEvent cluster before other past told after = ⊥
 
 -- ---- which events there are
@@ -156,11 +191,17 @@ abbrev pub job_fault : Job → Option LineFault
 job_fault (job.Recon device name) = Some Form
 job_fault other = None
 
--- The fault of an event's line in scripts of the cluster: its form is not done yet, or it names no device. Jobs run at once, and devices
--- are shown.
+abbrev pub device_fault : ClusterModel → ℕ → Option LineFault
+device_fault cluster device = if is_among (ids_of cluster) device then None else Some NoDevice
+
+-- The fault of an event's line in scripts of the cluster: its form is not done yet, or it names no device. Jobs run at once; devices are
+-- shown, stop, restart and lose their disks.
 abbrev pub event_fault : ClusterModel → Event → Option LineFault
 event_fault cluster (event.Run job) = job_fault job
-event_fault cluster (event.Show device name) = if is_among (ids_of cluster) device then None else Some NoDevice
+event_fault cluster (event.Show device name) = device_fault cluster device
+event_fault cluster (event.Stop device) = device_fault cluster device
+event_fault cluster (event.Restart device) = device_fault cluster device
+event_fault cluster (event.Lose device) = device_fault cluster device
 event_fault cluster other = Some Form
 
 -- an event that draws a stamp

@@ -33,7 +33,7 @@ pub enum PlayEnd {
 /// From a world that stands for one, there is a story of what was done: each operation ran by its machine, each of its messages was
 /// handled by the table of a node, and what is told is so. The text that was added is that of the story, and each found object in it is
 /// one put's. After want of memory the world answers so from then on.
-pub fn play(alloc: Global, input: &[u8], world: &mut World, text: &mut Bytes) -> PlayEnd
+pub fn play(alloc: Global, input: &[u8], world: &mut World<'_>, text: &mut Bytes) -> PlayEnd
     requires { length input.now ≤ greatest_script }
     ensures played { (before : AWorld) → StandsFor world.old before → Played world.old.cluster before (lines_of input.now) result world.new text.old text.new }
     ensures wanted { world.old.is_wanting ≡ true → (result ≡ PlayEnd.NoMemory) × (world.new.is_wanting ≡ true) × (text.new ≡ text.old) }
@@ -71,7 +71,12 @@ enum LineStop {
 }
 
 // Does the event of a line, if it tells one, and adds what is told of it to the text.
-fn do_line(alloc: Global, line: &[u8], world: &mut World, text: &mut Bytes) -> Result<(), LineStop>
+fn do_line(
+    alloc: Global,
+    line: &[u8],
+    world: &mut World<'_>,
+    text: &mut Bytes,
+) -> Result<(), LineStop>
     ensures ok { (before : AWorld) → StandsFor world.old before → OnOk result (DoesLine world.old.cluster before line.now world.new text.old text.new) }
     ensures stops { IfErr result (λ stop. StopsLine line.now stop world.old world.new) }
     ensures text { OnErr result (text.new ≡ text.old) }
@@ -95,7 +100,7 @@ fn do_line(alloc: Global, line: &[u8], world: &mut World, text: &mut Bytes) -> R
 fn do_event(
     alloc: Global,
     event: &Event,
-    world: &mut World,
+    world: &mut World<'_>,
     text: &mut Bytes,
 ) -> Result<(), LineStop>
     requires { event_fault world.old.cluster event.now ≡ None }

@@ -3,6 +3,7 @@
 ghost use Rattle.std.specs.Prelude.{◌≡◌, ◌≤◌, List, None, OnOk, IfOk, false};
 ghost use Rattle.sw_types.specs.Stamp.{greatest_stamp};
 ghost use Rattle.sw_archive.specs.Put.{IsPut};
+ghost use Rattle.sw_ring.specs.Ring.{is_among};
 ghost use Rattle.sw_message.specs.Transcript.{Step};
 ghost use Rattle.sw_nodes.specs.Nodes.{devices_of};
 ghost use Rattle.sw_play.specs.World.{RanDelete, RanGet, RanPut, ended, gets_as};
@@ -18,7 +19,7 @@ use sw_types::{Items, Name, NoMemory, Object, Stamp};
 /// Runs a put.
 pub(crate) fn run_put(
     alloc: Global,
-    nodes: &mut Nodes,
+    nodes: &mut Nodes<'_>,
     stamp: Stamp,
     operation: u64,
     name: &Name,
@@ -26,10 +27,11 @@ pub(crate) fn run_put(
 ) -> Result<Told, NoMemory>
     requires { stamp ≤ greatest_stamp }
     ensures runs { IfOk result (λ told. (past : List Step) × RanPut (record { cluster = nodes.old.cluster; stamp = stamp; name = name.now; object = object.now })
-        operation (devices_of nodes.old.nodes) past told (devices_of nodes.new.nodes)) }
+        (is_among nodes.old.down) operation (devices_of nodes.old.nodes) past told (devices_of nodes.new.nodes)) }
     ensures is_put { OnOk result (IsPut nodes.old.cluster.policy stamp name.now object.now) }
     ensures goes_on { OnOk result (nodes.new.is_wanting ≡ false) }
     ensures cluster { nodes.new.cluster ≡ nodes.old.cluster }
+    ensures down { nodes.new.down ≡ nodes.old.down }
 {
     // The contracts of these say that a name and an object keep their rules.
     let _path = name.path(alloc)?;
@@ -43,15 +45,16 @@ pub(crate) fn run_put(
 /// Runs a delete.
 pub(crate) fn run_delete(
     alloc: Global,
-    nodes: &mut Nodes,
+    nodes: &mut Nodes<'_>,
     stamp: Stamp,
     operation: u64,
     name: &Name,
 ) -> Result<Told, NoMemory>
     ensures runs { IfOk result (λ told. (past : List Step) × RanDelete (record { cluster = nodes.old.cluster; stamp = stamp; name = name.now })
-        operation (devices_of nodes.old.nodes) past told (devices_of nodes.new.nodes)) }
+        (is_among nodes.old.down) operation (devices_of nodes.old.nodes) past told (devices_of nodes.new.nodes)) }
     ensures goes_on { OnOk result (nodes.new.is_wanting ≡ false) }
     ensures cluster { nodes.new.cluster ≡ nodes.old.cluster }
+    ensures down { nodes.new.down ≡ nodes.old.down }
 {
     let mut op = DeleteOp::begin(alloc, nodes.cluster(), stamp, name)?;
     run_alone(&mut op, nodes)?;
@@ -62,15 +65,16 @@ pub(crate) fn run_delete(
 /// Runs a get, or a head where only that is told.
 pub(crate) fn run_get(
     alloc: Global,
-    nodes: &mut Nodes,
+    nodes: &mut Nodes<'_>,
     operation: u64,
     name: &Name,
     is_head: bool,
 ) -> Result<Told, NoMemory>
-    ensures runs { IfOk result (λ told. (past : List Step) × RanGet (record { cluster = nodes.old.cluster; name = name.now }) (gets_as is_head)
+    ensures runs { IfOk result (λ told. (past : List Step) × RanGet (record { cluster = nodes.old.cluster; name = name.now }) (is_among nodes.old.down) (gets_as is_head)
         operation (devices_of nodes.old.nodes) past told (devices_of nodes.new.nodes)) }
     ensures goes_on { OnOk result (nodes.new.is_wanting ≡ false) }
     ensures cluster { nodes.new.cluster ≡ nodes.old.cluster }
+    ensures down { nodes.new.down ≡ nodes.old.down }
 {
     let mut op = GetOp::begin(alloc, nodes.cluster(), name)?;
     run_alone(&mut op, nodes)?;

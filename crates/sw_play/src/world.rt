@@ -13,7 +13,7 @@ ghost use Rattle.sw_nodes.specs.Nodes.{devices_of};
 ghost use Rattle.sw_script.specs.declared.event.Event.TheVariants.{Run};
 ghost use Rattle.sw_play.specs.Show.{IsReadable, IsShown};
 ghost use Rattle.sw_play.specs.Standing.{StandsFor};
-ghost use Rattle.sw_play.specs.World.{DoesDelete, DoesEvent, DoesGet, DoesJob, DoesPut, DoesShow, World as AWorld, empty_world, event_fault, is_drawing, job_fault, next_stamp};
+ghost use Rattle.sw_play.specs.World.{DoesDelete, DoesEvent, DoesGet, DoesJob, DoesLose, DoesPut, DoesRestart, DoesShow, DoesStop, World as AWorld, device_fault, empty_world, event_fault, is_drawing, job_fault, next_stamp};
 
 use crate::fault::StepFault;
 use crate::running::{run_delete, run_get, run_put};
@@ -29,16 +29,16 @@ use sw_types::{Items, Name, NoMemory, Object, Stamp};
 /// What the clock shows, in units of 10 microseconds: 1000000000.00000.
 const CLOCK: u64 = 100_000_000_000_000;
 
-/// A cluster whose nodes stand in one process, the last stamp that was drawn, and how many operations were started.
+/// A cluster that stands outside and whose nodes stand in one process, the last stamp that was drawn, and how many operations were started.
 #[derive(Drop)]
-pub struct World {
+pub struct World<'a> {
     alloc: Global,
-    nodes: Nodes,
+    nodes: Nodes<'a>,
     last: Option<Stamp>,
     operations: u64,
 }
 
-impl Model for World {
+impl<'a> Model for World<'a> {
     ghost use Rattle.sw_play.specs.Standing.{IsWorld, WorldModel};
     ghost use Rattle.sw_play.specs.WorldInside.{world_seen};
 
@@ -49,10 +49,10 @@ impl Model for World {
     ghost invariant = { λ world. IsWorld (world_seen world) };
 }
 
-impl World {
+impl<'a> World<'a> {
     /// A world of a cluster in which nothing was started, and whose disks are empty.
-    pub fn new(alloc: Global, cluster: Cluster) -> Result<World, NoMemory>
-        ensures cluster { IfOk result (λ world. world.cluster ≡ cluster) }
+    pub fn new(alloc: Global, cluster: &'a Cluster) -> Result<World<'a>, NoMemory>
+        ensures cluster { IfOk result (λ world. world.cluster ≡ cluster.now) }
         ensures stands { IfOk result (λ world. StandsFor world empty_world) }
     {
         Ok(World {
@@ -64,7 +64,7 @@ impl World {
     }
 
     /// Its cluster.
-    pub fn cluster(&self) -> &Cluster
+    pub fn cluster(&self) -> &'a Cluster
         ensures { result.now ≡ self.now.cluster }
     {
         self.nodes.cluster()
@@ -78,11 +78,21 @@ impl World {
         match event {
             Event::Run(Job::Recon { .. }) => Some(LineFault::Form),
             Event::Run(_) => None,
-            Event::Show { device, name: _ } => match self.device_of(*device) {
-                Some(_) => None,
-                None => Some(LineFault::NoDevice),
-            },
+            Event::Show { device, name: _ } => self.device_fault(*device),
+            Event::Stop(device) => self.device_fault(*device),
+            Event::Restart(device) => self.device_fault(*device),
+            Event::Lose(device) => self.device_fault(*device),
             _ => Some(LineFault::Form),
+        }
+    }
+
+    // The fault of a line that names a device by a number, if there is no such device.
+    fn device_fault(&self, number: u64) -> Option<LineFault>
+        ensures { result ≡ device_fault self.now.cluster number }
+    {
+        match self.device_of(number) {
+            Some(_) => None,
+            None => Some(LineFault::NoDevice),
         }
     }
 
@@ -126,6 +136,9 @@ impl World {
         match event {
             Event::Run(job) => self.run(job),
             Event::Show { device, name } => self.show(*device, name),
+            Event::Stop(device) => self.stop(*device),
+            Event::Restart(device) => self.restart(*device),
+            Event::Lose(device) => self.lose(*device),
             _ => unreachable!(),
         }
     }
@@ -240,6 +253,63 @@ impl World {
             }
         }
     }
+
+    // A device stops.
+    fn stop(&mut self, number: u64) -> Result<Told, StepFault>
+        requires goes_on { self.old.is_wanting ≡ false }
+        requires member { is_among (ids_of self.old.cluster) number ≡ true }
+        ensures does { (before : AWorld) → StandsFor self.old before →
+            IfOk result (λ told. (past : List Step) × (after : AWorld) × DoesStop before number past told after × StandsFor self.new after) }
+        ensures fault { IfErr result (λ fault. (fault ≡ StepFault.NoMemory) × (self.new.is_wanting ≡ true)) }
+        ensures cluster { self.new.cluster ≡ self.old.cluster }
+    {
+        let device = self.device_of(number).unwrap();
+        match self.nodes.stop(device) {
+            Ok(()) => Ok(nothing_told(self.alloc)),
+            Err(NoMemory) => {
+                self.nodes.give_up();
+                Err(StepFault::NoMemory)
+            }
+        }
+    }
+
+    // A device restarts.
+    fn restart(&mut self, number: u64) -> Result<Told, StepFault>
+        requires goes_on { self.old.is_wanting ≡ false }
+        requires member { is_among (ids_of self.old.cluster) number ≡ true }
+        ensures does { (before : AWorld) → StandsFor self.old before →
+            IfOk result (λ told. (past : List Step) × (after : AWorld) × DoesRestart before number past told after × StandsFor self.new after) }
+        ensures fault { IfErr result (λ fault. (fault ≡ StepFault.NoMemory) × (self.new.is_wanting ≡ true)) }
+        ensures cluster { self.new.cluster ≡ self.old.cluster }
+    {
+        let device = self.device_of(number).unwrap();
+        match self.nodes.restart(device) {
+            Ok(()) => Ok(nothing_told(self.alloc)),
+            Err(NoMemory) => {
+                self.nodes.give_up();
+                Err(StepFault::NoMemory)
+            }
+        }
+    }
+
+    // A device loses its disk, and has an empty one.
+    fn lose(&mut self, number: u64) -> Result<Told, StepFault>
+        requires goes_on { self.old.is_wanting ≡ false }
+        requires member { is_among (ids_of self.old.cluster) number ≡ true }
+        ensures does { (before : AWorld) → StandsFor self.old before →
+            IfOk result (λ told. (past : List Step) × (after : AWorld) × DoesLose before number past told after × StandsFor self.new after) }
+        ensures fault { IfErr result (λ fault. (fault ≡ StepFault.NoMemory) × (self.new.is_wanting ≡ true)) }
+        ensures cluster { self.new.cluster ≡ self.old.cluster }
+    {
+        let device = self.device_of(number).unwrap();
+        match self.nodes.lose(device) {
+            Ok(()) => Ok(nothing_told(self.alloc)),
+            Err(NoMemory) => {
+                self.nodes.give_up();
+                Err(StepFault::NoMemory)
+            }
+        }
+    }
 }
 
 // The device that has a number, among these.
@@ -259,7 +329,7 @@ fn place_among(devices: &[Device], number: u64) -> Option<usize>
 }
 
 // What a device of the cluster has of a name, told.
-fn show_at(alloc: Global, nodes: &Nodes, device: u16, name: &Name) -> Result<Told, NoMemory>
+fn show_at(alloc: Global, nodes: &Nodes<'_>, device: u16, name: &Name) -> Result<Told, NoMemory>
     requires member { IsMember nodes.now.cluster device }
     requires readable { All IsReadable (devices_of nodes.now.nodes device (folder_of (place_of_name nodes.now.cluster name.now))) }
     ensures no_ends { IfOk result (λ told. told.ends ≡ []) }
@@ -271,6 +341,16 @@ fn show_at(alloc: Global, nodes: &Nodes, device: u16, name: &Name) -> Result<Tol
         ends: Items::from(Vec::new(alloc)),
         shown: shown(alloc, disk, device, place)?,
     })
+}
+
+// Nothing is told.
+fn nothing_told(alloc: Global) -> Told
+    ensures { result ≡ record { ends = []; shown = [] } }
+{
+    Told {
+        ends: Items::from(Vec::new(alloc)),
+        shown: Items::from(Vec::new(alloc)),
+    }
 }
 
 // The stamp of the next put or delete: none where the stamps are spent.

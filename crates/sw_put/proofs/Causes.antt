@@ -20,7 +20,8 @@ use Rattle.sw_quorum.specs.Laws.{done-each, floor-stays, floors-each, floors-mor
 use Rattle.sw_quorum.specs.Refusals.{IsRefusal, not-done, refusal}
 use Rattle.sw_quorum.specs.declared.verdict.Verdict.TheVariants.{Done, Forbidden}
 use Rattle.sw_put.specs.Causes.{WasCommitted, WasMissed, WasNotCommitted, WasStored, WasTold}
-use Rattle.sw_put.specs.Put.{Begun, IsBegun, IsNext, commit_verdict, commits, judge_commit, judge_store, put_message, store_verdict, stores}
+use Rattle.sw_put.specs.Put.{Begun, IsBegun, IsNext, commits, judge_commit, judge_store, put_message, stores}
+use Rattle.sw_quorum.specs.Verdicts.{commit_verdict, store_verdict}
 use Rattle.sw_put.specs.declared.errand.Errand.{Errand}
 use Rattle.sw_put.specs.declared.errand.Errand.TheVariants.{CommitAt, StoreAt}
 use Rattle.sw_put.proofs.Homes.{Fits, IsFit, fits}

@@ -16,7 +16,9 @@ use Rattle.sw_quorum.specs.Tally.{Counts, counts_of}
 use Rattle.sw_quorum.specs.Transcripts.{run-told, told-ignored, told-open}
 use Rattle.sw_put.specs.Inside.{put_seen}
 use Rattle.sw_put.specs.Plans.{planned}
-use Rattle.sw_put.specs.Put.{Begun, IsNext, commit_verdict, commits, commits_due, due, handoffs, put_end, put_message, put_next, replacements, store_verdict, stores, stores_due, targets_from}
+use Rattle.sw_put.specs.Put.{Begun, IsNext, commits, commits_due, due, handoffs, put_end, put_message, put_next, replacements, stores, stores_due}
+use Rattle.sw_quorum.specs.Targets.{targets_from}
+use Rattle.sw_quorum.specs.Verdicts.{commit_verdict, store_verdict}
 use Rattle.sw_put.specs.Standing.{PutModel, Stands}
 use Rattle.sw_put.specs.declared.end.PutEnd.{PutEnd}
 use Rattle.sw_put.specs.declared.errand.Errand.{Errand}

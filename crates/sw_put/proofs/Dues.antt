@@ -18,7 +18,8 @@ use Rattle.sw_quorum.specs.Lookups.{slice_get-behind, slice_get-front, slice_get
 use Rattle.sw_put.specs.Plans.{replacement}
 use Rattle.sw_put.specs.declared.errand.Errand.{Errand}
 use Rattle.sw_put.specs.declared.errand.Errand.TheVariants.{CommitAt, StoreAt}
-use Rattle.sw_put.specs.Put.{Begun, handoffs, primaries, replacements, targets_from}
+use Rattle.sw_put.specs.Put.{Begun, handoffs, primaries, replacements}
+use Rattle.sw_quorum.specs.Targets.{targets_from}
 
 -- ---- by the answers to fragments
 

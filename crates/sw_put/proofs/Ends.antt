@@ -25,7 +25,8 @@ use Rattle.sw_quorum.specs.Places.{apart-from_once, counted-among, one_if, some-
 use Rattle.sw_quorum.specs.Quorums.{quorums}
 use Rattle.sw_put.specs.Causes.{AreMany, IsCreated, IsSuperseded, IsTooFewCommits, IsTooFewSynced, WasCommitted, WasMissed, WasNotCommitted, WasStored, WasTold}
 use Rattle.sw_put.specs.Plans.{replacement}
-use Rattle.sw_put.specs.Put.{Begun, IsBegun, IsNext, commits, commits_due, committed_end, due, end_at, handoffs, misses, place_of, primaries, put_end, put_message, put_next, replacements, settled_end, stores, stores_due, targets_from, too_few_commits}
+use Rattle.sw_put.specs.Put.{Begun, IsBegun, IsNext, commits, commits_due, committed_end, due, end_at, handoffs, misses, place_of, primaries, put_end, put_message, put_next, replacements, settled_end, stores, stores_due, too_few_commits}
+use Rattle.sw_quorum.specs.Targets.{targets_from}
 use Rattle.sw_put.specs.declared.end.PutEnd.{PutEnd}
 use Rattle.sw_put.specs.declared.end.PutEnd.TheVariants.{Created, Superseded, TooFewCommits, TooFewSynced}
 use Rattle.sw_put.specs.declared.errand.Errand.TheVariants.{StoreAt}

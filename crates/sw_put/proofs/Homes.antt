@@ -26,7 +26,9 @@ use Rattle.sw_quorum.specs.Places.{handoffs_apart, handoffs_known, part_small}
 use Rattle.sw_quorum.specs.Refusals.{not-done}
 use Rattle.sw_quorum.specs.declared.verdict.Verdict.TheVariants.{Done}
 use Rattle.sw_put.specs.Causes.{WasStored}
-use Rattle.sw_put.specs.Put.{Begun, IsBegun, IsNext, commits_due, due, handoffs, place_of, primaries, put_message, replacements, store_verdict, stores, stores_due, targets_from}
+use Rattle.sw_put.specs.Put.{Begun, IsBegun, IsNext, commits_due, due, handoffs, place_of, primaries, put_message, replacements, stores, stores_due}
+use Rattle.sw_quorum.specs.Targets.{targets_from}
+use Rattle.sw_quorum.specs.Verdicts.{store_verdict}
 use Rattle.sw_put.specs.declared.errand.Errand.{Errand}
 use Rattle.sw_put.specs.declared.errand.Errand.TheVariants.{CommitAt, StoreAt}
 use Rattle.sw_put.proofs.Dues.{primaries-each, replacements-each}

@@ -13,7 +13,9 @@ use Rattle.sw_quorum.specs.DueLaws as laws
 use Rattle.sw_quorum.specs.Dues.{Grew, IsDue, IsLonger}
 use Rattle.sw_quorum.specs.Laws.{counts-within, judged, missed-more, sum-ones}
 use Rattle.sw_quorum.specs.Transcripts.{answers-weigh, numbered, one_less, told_count}
-use Rattle.sw_put.specs.Put.{Begun, IsNext, commits, commits_due, due, end_at, handoffs, judge_commit, judge_store, primaries, put_end, put_message, put_next, replacements, store_verdict, stores, stores_due, targets_from}
+use Rattle.sw_put.specs.Put.{Begun, IsNext, commits, commits_due, due, end_at, handoffs, judge_commit, judge_store, primaries, put_end, put_message, put_next, replacements, stores, stores_due}
+use Rattle.sw_quorum.specs.Targets.{targets_from}
+use Rattle.sw_quorum.specs.Verdicts.{store_verdict}
 use Rattle.sw_put.specs.declared.end.PutEnd.{PutEnd}
 use Rattle.sw_put.specs.declared.errand.Errand.{Errand}
 use Rattle.sw_put.specs.declared.errand.Errand.TheVariants.{CommitAt, StoreAt}

@@ -17,7 +17,8 @@ use Rattle.sw_quorum.specs.Answers.{done, missed}
 use Rattle.sw_quorum.specs.Laws.{parts}
 use Rattle.sw_quorum.specs.Places.{apart-from_once, device_once, one_if, part_small, place_right}
 use Rattle.sw_put.specs.Causes.{WasStored}
-use Rattle.sw_put.specs.Put.{Begun, IsBegun, IsNext, handoffs, place_of, primaries, put_message, replacements, stores, targets_from}
+use Rattle.sw_put.specs.Put.{Begun, IsBegun, IsNext, handoffs, place_of, primaries, put_message, replacements, stores}
+use Rattle.sw_quorum.specs.Targets.{targets_from}
 use Rattle.sw_put.specs.declared.errand.Errand.{Errand}
 use Rattle.sw_put.specs.declared.errand.Errand.TheVariants.{CommitAt, StoreAt}
 use Rattle.sw_put.proofs.Homes.{Fits, IsFit, fits, known}

@@ -12,7 +12,8 @@ use Rattle.sw_message.specs.declared.sent.Sent.{Sent}
 use Rattle.sw_message.specs.declared.target.Target.{Target}
 use Rattle.sw_quorum.specs.Answers.{done}
 use Rattle.sw_quorum.specs.declared.verdict.Verdict.TheVariants.{Missed}
-use Rattle.sw_put.specs.Put.{Begun, commit_verdict, commits, handoffs, misses, place_of, put_message, store_verdict, stores}
+use Rattle.sw_put.specs.Put.{Begun, commits, handoffs, misses, place_of, put_message, stores}
+use Rattle.sw_quorum.specs.Verdicts.{commit_verdict, store_verdict}
 use Rattle.sw_put.specs.declared.errand.Errand.TheVariants.{CommitAt, StoreAt}
 
 -- ---- what was answered

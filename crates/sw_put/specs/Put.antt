@@ -1,27 +1,24 @@
 -- The machine of a put: fragments go to the primaries, and for each miss to a handoff; once enough are stored, commits go where they are.
-use Rattle.std.specs.Prelude.{◌≡◌, ℕ, ◌+◌, Bool, not, ◌&&◌, ◌||◌, if◌then◌else◌, nat_lt, List, [], ◌∷◌, ◌++◌, length, map, is_some, Option, Some, None}
+use Rattle.std.specs.Prelude.{◌≡◌, ℕ, Bool, not, ◌&&◌, ◌||◌, if◌then◌else◌, nat_lt, List, [], ◌∷◌, ◌++◌, length, map, is_some, Option, Some, None}
 use Rattle.sw_types.specs.Name.{NameModel}
 use Rattle.sw_types.specs.Object.{ObjectModel}
 use Rattle.sw_hashdir.specs.declared.floor.Floor.{Floor}
 use Rattle.sw_hashpath.specs.Place.{PlaceModel}
 use Rattle.sw_archive.specs.Put.{put_archive}
 use Rattle.sw_ring.specs.Cluster.{ClusterModel, KeepsRules, column_of, handoffs_of, place_of_name}
-use Rattle.sw_message.specs.Floors.{highest, stands_above}
-use Rattle.sw_message.specs.Miss.{miss_of}
+use Rattle.sw_message.specs.Floors.{highest}
 use Rattle.sw_message.specs.Targets.{ascending}
 use Rattle.sw_message.specs.Transcript.{Next, Over, Hand, Step, Wait}
 use Rattle.sw_message.specs.declared.message.Msg.{Msg}
 use Rattle.sw_message.specs.declared.message.Msg.TheVariants as message
 use Rattle.sw_message.specs.declared.miss.Miss.{Miss}
-use Rattle.sw_message.specs.declared.miss.Miss.TheVariants as miss
 use Rattle.sw_message.specs.declared.reply.Reply.{Reply}
-use Rattle.sw_message.specs.declared.reply.Reply.TheVariants as reply
 use Rattle.sw_message.specs.declared.sent.Sent.{Sent}
 use Rattle.sw_message.specs.declared.target.Target.{Target}
-use Rattle.sw_quorum.specs.Answers.{Judged, answers, done, floors, forbidden_if, missed}
+use Rattle.sw_quorum.specs.Answers.{Judged, answers, done, floors, missed}
 use Rattle.sw_quorum.specs.Dues.{due_next}
-use Rattle.sw_quorum.specs.declared.verdict.Verdict.{Verdict}
-use Rattle.sw_quorum.specs.declared.verdict.Verdict.TheVariants.{Done, Missed}
+use Rattle.sw_quorum.specs.Targets.{targets_from}
+use Rattle.sw_quorum.specs.Verdicts.{commit_verdict, store_verdict}
 use Rattle.sw_put.specs.declared.errand.Errand.{Errand}
 use Rattle.sw_put.specs.declared.errand.Errand.TheVariants.{CommitAt, StoreAt}
 use Rattle.sw_put.specs.declared.end.PutEnd.{PutEnd}
@@ -49,21 +46,6 @@ handoffs begun = handoffs_of begun.cluster (place_of begun).part
 
 -- ---- what answers mean
 
--- to a fragment
-abbrev pub store_verdict : ℕ → Option Reply → Verdict
-store_verdict stamp None = Missed miss.NoReply
-store_verdict stamp (Some reply.Synced) = Done
-store_verdict stamp (Some (reply.Superseded floor)) = forbidden_if (stands_above floor stamp) floor
-store_verdict stamp (Some other) = Missed (miss_of other)
-
--- to a commit
-abbrev pub commit_verdict : ℕ → Option Reply → Verdict
-commit_verdict stamp None = Missed miss.NoReply
-commit_verdict stamp (Some reply.Committed) = Done
-commit_verdict stamp (Some (reply.Superseded floor)) = forbidden_if (stands_above floor stamp) floor
-commit_verdict stamp (Some reply.Missing) = Missed miss.Missing
-commit_verdict stamp (Some other) = Missed (miss_of other)
-
 -- of which index, at which device
 abbrev pub judge_store : ℕ → Msg → Option Reply → List (Judged Target)
 judge_store device (message.PutFrag place stamp index bytes) answer = record { about = record { index = index; device = device }; verdict = store_verdict stamp answer } ∷ []
@@ -81,11 +63,6 @@ abbrev pub commits : List Step → List (Judged Target)
 commits past = answers (λ sent answer. judge_commit sent.device sent.msg answer) past
 
 -- ---- the machine
-
--- each index from this one on, at its primary
-abbrev pub targets_from : ℕ → List ℕ → List Target
-targets_from index [] = []
-targets_from index (device ∷ devices) = record { index = index; device = device } ∷ targets_from (index + 1) devices
 
 -- the index of each miss, in the order of their answers, at the next handoff while there is one
 abbrev pub replacements : List (Target × Miss) → List ℕ → List Target

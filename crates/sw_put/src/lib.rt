@@ -7,7 +7,6 @@ mod laws;
 mod operation;
 mod planning;
 mod put;
-mod verdict;
 
 pub use crate::end::PutEnd;
 pub use crate::laws::end_law;

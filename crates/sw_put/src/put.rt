@@ -11,12 +11,11 @@ ghost use Rattle.sw_put.specs.Standing.{Stands, most_messages};
 use crate::end::PutEnd;
 use crate::errand::Errand;
 use crate::planning::{make_archives, plan_commits, replacement, told_misses};
-use crate::verdict::{commit_verdict, store_verdict};
 use std::alloc::Global;
 use std::marker::Model;
 use sw_hashpath::Place;
 use sw_message::{Msg, Reply, Sent, Target, Tickets, primaries};
-use sw_quorum::Tally;
+use sw_quorum::{Tally, commit_verdict, store_verdict};
 use sw_ring::Cluster;
 use sw_types::{Bytes, Name, NoMemory, Object, Stamp};
 

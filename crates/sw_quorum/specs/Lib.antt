@@ -7,4 +7,6 @@ pub mod Places
 pub mod Quorums
 pub mod Refusals
 pub mod Tally
+pub mod Targets
 pub mod Transcripts
+pub mod Verdicts

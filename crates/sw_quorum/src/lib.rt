@@ -3,6 +3,8 @@
 
 mod tally;
 mod verdict;
+mod verdicts;
 
 pub use crate::tally::Tally;
 pub use crate::verdict::Verdict;
+pub use crate::verdicts::{commit_verdict, delete_verdict, store_verdict};

@@ -165,13 +165,22 @@ IsStatus begun (Told sent answer ∷ past) status = (before : Status) × IsStatu
 
 -- ---- the machine
 
+-- whether the message of a treatment goes to the own device, and not to the primary of the index
+abbrev pub is_own : Treatment → Bool
+is_own Fetch = true
+is_own Remove = true
+is_own other = false
+
+abbrev pub message_for : PlaceModel → Entry → Treatment → Msg
+message_for place entry Ask = message.Ask place
+message_for place entry Fetch = message.Fetch place entry.stamp entry.index
+message_for place entry (Store bytes) = message.PutFrag place entry.stamp entry.index bytes
+message_for place entry Commit = message.Commit place entry.stamp entry.index
+message_for place entry Remove = message.Remove place entry.stamp entry.index
+
 -- the message of a treatment, and the device that it goes to
 abbrev pub sent_for : PlaceModel → (own primary : ℕ) → Entry → Treatment → ℕ × Msg
-sent_for place own primary entry Ask = (primary, message.Ask place)
-sent_for place own primary entry Fetch = (own, message.Fetch place entry.stamp entry.index)
-sent_for place own primary entry (Store bytes) = (primary, message.PutFrag place entry.stamp entry.index bytes)
-sent_for place own primary entry Commit = (primary, message.Commit place entry.stamp entry.index)
-sent_for place own primary entry Remove = (own, message.Remove place entry.stamp entry.index)
+sent_for place own primary entry treatment = (if is_own treatment then own else primary, message_for place entry treatment)
 
 abbrev pub treat_message : Begun → ℕ → Course → Sent
 treat_message begun ticket course =

@@ -12,11 +12,10 @@ use crate::treatment::Treatment;
 use std::alloc::Global;
 use std::collections::VecDeque;
 use std::marker::Model;
-use std::mem::replace;
 use sw_hashdir::Entry;
 use sw_hashpath::Place;
 use sw_message::{Miss, Msg};
-use sw_types::{Bytes, Items};
+use sw_types::Items;
 
 /// The entry that is treated and those behind it, what is done next about it, how many were removed, and those that are kept. There
 /// is room to keep each that is left.
@@ -82,46 +81,13 @@ impl Course {
         ensures message { result ≡ sent_for place own primary self.old.entry self.old.treatment }
         ensures handed { self.new ≡ record self.old { treatment = handed_treatment self.old.treatment } }
     {
-        let Entry { stamp, index, .. } = self.entry;
-        match &mut self.treatment {
-            Treatment::Ask => (primary, Msg::Ask { place }),
-            Treatment::Fetch => (
-                own,
-                Msg::Fetch {
-                    place,
-                    stamp,
-                    index,
-                },
-            ),
-            Treatment::Store(bytes) => {
-                let bytes = replace(bytes, Bytes::new(alloc));
-                (
-                    primary,
-                    Msg::PutFrag {
-                        place,
-                        stamp,
-                        index,
-                        bytes,
-                    },
-                )
-            }
-            Treatment::Commit => (
-                primary,
-                Msg::Commit {
-                    place,
-                    stamp,
-                    index,
-                },
-            ),
-            Treatment::Remove => (
-                own,
-                Msg::Remove {
-                    place,
-                    stamp,
-                    index,
-                },
-            ),
-        }
+        let device = if self.treatment.is_own() {
+            own
+        } else {
+            primary
+        };
+        let msg = self.treatment.message(alloc, place, self.entry);
+        (device, msg)
     }
 
     /// It is treated on.

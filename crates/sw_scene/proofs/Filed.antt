@@ -7,7 +7,7 @@ use Rattle.sw_hashpath.specs.Place.{IsPlace, PlaceModel, folder_of}
 use Rattle.sw_hashdir.specs.declared.floor.Floor.{Floor}
 use Rattle.sw_diskfile.proofs.Directories.{same_or_other}
 use Rattle.sw_ring.specs.Cluster.{ClusterModel}
-use Rattle.sw_message.specs.Learnt.{Booked, IsGenuine, Learnt}
+use Rattle.sw_message.specs.Learnt.{Booked, IsGenuine, IsSoundBook, Learnt}
 use Rattle.sw_message.specs.Message.{IsPlaceOf, place_in}
 use Rattle.sw_message.specs.Step.{AreChanged, Folders, IsStepAt}
 use Rattle.sw_message.specs.Survey.{IsSurveyed}
@@ -17,7 +17,7 @@ use Rattle.sw_message.specs.declared.message.Msg.{Msg}
 use Rattle.sw_message.specs.declared.message.Msg.TheVariants as message
 use Rattle.sw_message.specs.declared.reply.Reply.{Reply}
 use Rattle.sw_scene.specs.Devices.{AreSame, Devices, IsHandledBy}
-use Rattle.sw_scene.specs.Filed.{AreFiled, IsFiled, IsSoundBook}
+use Rattle.sw_scene.specs.Filed.{AreFiled, IsFiled}
 use Rattle.sw_scene.proofs.Changed.{all_changed-kept}
 use Rattle.sw_scene.proofs.Leaving.{Leave}
 use Rattle.sw_scene.proofs.Places.{one_place}

@@ -13,12 +13,12 @@ use Rattle.sw_ring.specs.Cluster.{ClusterModel}
 use Rattle.sw_archive.specs.Archive.{ArchiveModel, IsArchive}
 use Rattle.sw_archive.specs.Put.{put_archive, put_fields}
 use Rattle.sw_archive.proofs.Archives.{one_archive, put_is_archive}
-use Rattle.sw_message.specs.Learnt.{IsGenuine, Learnt}
+use Rattle.sw_message.specs.Learnt.{IsGenuine, IsSoundBook, Learnt}
 use Rattle.sw_message.specs.Step.{IsFound}
 use Rattle.sw_message.specs.Table.{Found}
 use Rattle.sw_message.specs.Warrant.{IsOfPut}
 use Rattle.sw_message.specs.declared.reply.Reply.TheVariants as reply
-use Rattle.sw_scene.specs.Filed.{IsFiled, IsSoundBook}
+use Rattle.sw_scene.specs.Filed.{IsFiled}
 use Rattle.sw_scene.proofs.Changed.{found_file}
 
 module _ (cluster : ClusterModel) (learnt : Learnt) (sound : IsSoundBook cluster.policy learnt.book) where

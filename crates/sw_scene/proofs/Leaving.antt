@@ -10,10 +10,10 @@ use Rattle.sw_hashpath.specs.declared.file_name.FileName.TheVariants.{Data}
 use Rattle.sw_hashdir.proofs.Texts.{one_text}
 use Rattle.sw_diskfile.specs.Changes.{new_file}
 use Rattle.sw_ring.specs.Cluster.{ClusterModel}
-use Rattle.sw_message.specs.Learnt.{Booked}
+use Rattle.sw_message.specs.Learnt.{Booked, IsSoundBook}
 use Rattle.sw_message.specs.Table.{durable_text, plain_text, tombstone_text}
 use Rattle.sw_message.specs.Warrant.{IsOfPut}
-use Rattle.sw_scene.specs.Filed.{IsFiled, IsSoundBook}
+use Rattle.sw_scene.specs.Filed.{IsFiled}
 use Rattle.sw_scene.proofs.Changed.{Keeps}
 use Rattle.sw_scene.proofs.Tombstones.{no_archive}
 

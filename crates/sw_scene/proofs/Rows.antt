@@ -9,14 +9,14 @@ use Rattle.sw_hashpath.specs.Place.{IsPlace, PlaceModel, folder_of}
 use Rattle.sw_hashpath.specs.declared.file_name.FileName.TheVariants.{Data}
 use Rattle.sw_diskfile.specs.Changes.{new_file}
 use Rattle.sw_ring.specs.Cluster.{ClusterModel}
-use Rattle.sw_message.specs.Learnt.{Booked, IsGenuine, Learnt}
+use Rattle.sw_message.specs.Learnt.{Booked, IsGenuine, IsSoundBook, Learnt}
 use Rattle.sw_message.specs.Message.{is_primary, place_in}
 use Rattle.sw_message.specs.Step.{Folders, IsFound}
 use Rattle.sw_message.specs.Table.{Found, Handling, HandlesAsk, HandlesCommit, HandlesDelete, HandlesFetch, HandlesPutFrag, HandlesRemove, IsHandled, durable_text, plain_text, tombstone_text}
 use Rattle.sw_message.specs.Warrant.{IsOfPut, IsWarranted}
 use Rattle.sw_message.specs.declared.message.Msg.{Msg}
 use Rattle.sw_message.specs.declared.message.Msg.TheVariants as message
-use Rattle.sw_scene.specs.Filed.{IsFiled, IsSoundBook}
+use Rattle.sw_scene.specs.Filed.{IsFiled}
 use Rattle.sw_scene.proofs.Changed.{Keeps, removals-keep}
 use Rattle.sw_scene.proofs.Genuine.{fetched}
 use Rattle.sw_scene.proofs.Leaving.{Leave, archive-leaves, commit-leaves, none, tombstone-leaves}

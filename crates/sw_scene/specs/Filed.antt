@@ -1,21 +1,14 @@
 -- What is in the files: each archive is that of a put that was started, in the folder of its name's place.
-use Rattle.std.specs.Prelude.{◌≡◌, ℕ, Bool, Contains, List}
+use Rattle.std.specs.Prelude.{◌≡◌, ℕ, Bool, List}
 use Rattle.std.specs.List.{All}
-use Rattle.sw_types.specs.Policy.{PolicyModel}
 use Rattle.sw_disk.specs.Folder.{File}
 use Rattle.sw_hashpath.specs.FileName.{IsFileName, file_name_text}
 use Rattle.sw_hashpath.specs.Place.{IsPlace, PlaceModel, folder_of}
 use Rattle.sw_hashpath.specs.declared.file_name.FileName.TheVariants.{Data}
-use Rattle.sw_archive.specs.Put.{IsPut}
 use Rattle.sw_ring.specs.Cluster.{ClusterModel}
 use Rattle.sw_message.specs.Learnt.{Booked}
 use Rattle.sw_message.specs.Warrant.{IsOfPut}
 use Rattle.sw_scene.specs.Devices.{Devices}
-
--- the puts that were started: each keeps the bounds of what may be put, and no two have one stamp
-pub record IsSoundBook (policy : PolicyModel) (book : List Booked) : Type 0 where
-  pub puts : (booked : Booked) → Contains book booked → IsPut policy booked.stamp booked.name booked.object
-  pub one : (a b : Booked) → Contains book a → Contains book b → a.stamp ≡ b.stamp → a ≡ b
 
 -- a file of the folder of a place, if its name is that of an archive, is that archive of a put
 abbrev pub IsFiled : ClusterModel → List Booked → PlaceModel → File → Type 0

@@ -2,13 +2,13 @@
 
 ghost use Rattle.std.specs.Prelude.{ℕ};
 ghost use Rattle.sw_ring.specs.Cluster.{ClusterModel};
-ghost use Rattle.sw_message.specs.Learnt.{IsGenuine, Learnt};
+ghost use Rattle.sw_message.specs.Learnt.{IsGenuine, IsSoundBook, Learnt};
 ghost use Rattle.sw_message.specs.Message.{IsPlaceOf, place_in};
 ghost use Rattle.sw_message.specs.Warrant.{IsWarranted};
 ghost use Rattle.sw_message.specs.declared.message.Msg.{Msg as AMsg};
 ghost use Rattle.sw_message.specs.declared.reply.Reply.{Reply as AReply};
 ghost use Rattle.sw_scene.specs.Devices.{Devices, IsHandledBy};
-ghost use Rattle.sw_scene.specs.Filed.{AreFiled, IsSoundBook};
+ghost use Rattle.sw_scene.specs.Filed.{AreFiled};
 
 /// Where each archive in the files is that of a put, a warranted message leaves it so, whoever sends it, and an archive in a reply
 /// is that of a put.

@@ -12,9 +12,13 @@ use Rattle.sw_get.specs.declared.end.GetEnd.{GetEnd}
 use Rattle.sw_get.specs.declared.end.GetEnd.TheVariants as gets
 use Rattle.sw_put.specs.declared.end.PutEnd.{PutEnd}
 use Rattle.sw_put.specs.declared.end.PutEnd.TheVariants as puts
+use Rattle.sw_recon.specs.declared.revert_end.RevertEnd.{RevertEnd}
+use Rattle.sw_recon.specs.declared.revert_end.RevertEnd.TheVariants as reverts
+use Rattle.sw_sync.specs.declared.sync_end.SyncEnd.{SyncEnd}
+use Rattle.sw_sync.specs.declared.sync_end.SyncEnd.TheVariants as syncs
 use Rattle.sw_told.specs.declared.end.EndLine.{EndLine}
 use Rattle.sw_told.specs.declared.end.OpEnd.{OpEnd}
-use Rattle.sw_told.specs.declared.end.OpEnd.TheVariants.{Put, Get, Head, Delete}
+use Rattle.sw_told.specs.declared.end.OpEnd.TheVariants.{Put, Get, Head, Delete, Sync, Revert}
 use Rattle.sw_told.specs.declared.show.ShowLine.{ShowLine}
 use Rattle.sw_told.specs.declared.show.ShowLine.TheVariants.{Stored, Buried, Empty}
 use Rattle.sw_told.specs.declared.told.Told.{Told}
@@ -69,11 +73,23 @@ delete_text (deletes.Deleted stamp marks existed) = codes "deleted " ++ stamp_te
 delete_text (deletes.Superseded floor) = codes "superseded " ++ stamp_text floor.stamp
 delete_text (deletes.TooFewMarks have misses) = codes "too-few-marks " ++ decimal have
 
+abbrev pub sync_text : SyncEnd → List ℕ
+sync_text (syncs.Done commits rebuilt tombstones failed) = codes "sync " ++ decimal commits ++ 32 ∷ decimal rebuilt ++ 32 ∷ decimal tombstones ++ 32 ∷ decimal (length failed)
+sync_text (syncs.Unanswered device) = codes "unanswered " ++ decimal device
+sync_text (syncs.Newer floor) = codes "newer " ++ stamp_text floor.stamp
+sync_text (syncs.TooFew stamp have misses) = codes "too-few " ++ stamp_text stamp ++ 32 ∷ decimal have
+
+abbrev pub revert_text : RevertEnd → List ℕ
+revert_text (reverts.Done removed kept) = codes "revert " ++ decimal removed ++ 32 ∷ decimal (length kept)
+revert_text (reverts.Unanswered device) = codes "unanswered " ++ decimal device
+
 abbrev pub end_text : OpEnd → List ℕ
 end_text (Put end) = put_text end
 end_text (Get end) = get_text end
 end_text (Head end) = head_text end
 end_text (Delete end) = delete_text end
+end_text (Sync end) = sync_text end
+end_text (Revert end) = revert_text end
 
 -- the line of the end of an operation
 abbrev pub end_line : EndLine → List ℕ

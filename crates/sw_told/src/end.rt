@@ -1,7 +1,7 @@
 //! How operations ended, and the lines that say it.
 
 ghost use Rattle.std.specs.Prelude.{◌≡◌, ◌++◌, [], IfOk, OnOk, string_bytes};
-ghost use Rattle.sw_told.specs.Text.{delete_text, devices_of, end_line, end_text, get_text, head_text, indices_of, numbers_text, put_text};
+ghost use Rattle.sw_told.specs.Text.{delete_text, devices_of, end_line, end_text, get_text, head_text, indices_of, numbers_text, put_text, revert_text, sync_text};
 
 use crate::devices::devices_of;
 use crate::numbers::join_numbers;
@@ -10,6 +10,8 @@ use sw_delete::DeleteEnd;
 use sw_get::GetEnd;
 use sw_message::{Miss, Target};
 use sw_put::PutEnd;
+use sw_recon::RevertEnd;
+use sw_sync::SyncEnd;
 use sw_types::{Bytes, NoMemory, Object, Stamp, print_hex};
 
 /// How an operation ended. A head is a get of which only the length and the MD5 are told.
@@ -19,6 +21,8 @@ pub enum OpEnd {
     Get(GetEnd),
     Head(GetEnd),
     Delete(DeleteEnd),
+    Sync(SyncEnd),
+    Revert(RevertEnd),
 }
 
 /// How the operation of this number ended.
@@ -51,6 +55,8 @@ fn add_end(line: &mut Bytes, alloc: Global, end: &OpEnd) -> Result<(), NoMemory>
         OpEnd::Get(end) => add_get(line, alloc, end),
         OpEnd::Head(end) => add_head(line, alloc, end),
         OpEnd::Delete(end) => add_delete(line, alloc, end),
+        OpEnd::Sync(end) => add_sync(line, alloc, end),
+        OpEnd::Revert(end) => add_revert(line, alloc, end),
     }
 }
 
@@ -190,6 +196,44 @@ fn add_delete(line: &mut Bytes, alloc: Global, end: &DeleteEnd) -> Result<(), No
             format!(in alloc; "superseded {stamp}")?
         }
         DeleteEnd::TooFewMarks { have, .. } => format!(in alloc; "too-few-marks {have}")?,
+    };
+    line.extend_from_slice(text.as_bytes())
+}
+
+// Adds the end of a sync to a line.
+fn add_sync(line: &mut Bytes, alloc: Global, end: &SyncEnd) -> Result<(), NoMemory>
+    ensures { OnOk result (line.new ≡ line.old ++ sync_text end.now) }
+{
+    let text = match end {
+        SyncEnd::Done {
+            commits,
+            rebuilt,
+            tombstones,
+            failed,
+        } => {
+            let failed = failed.as_slice().len();
+            format!(in alloc; "sync {commits} {rebuilt} {tombstones} {failed}")?
+        }
+        SyncEnd::Unanswered { device } => format!(in alloc; "unanswered {device}")?,
+        SyncEnd::Newer { floor } => {
+            let stamp = floor.stamp;
+            format!(in alloc; "newer {stamp}")?
+        }
+        SyncEnd::TooFew { stamp, have, .. } => format!(in alloc; "too-few {stamp} {have}")?,
+    };
+    line.extend_from_slice(text.as_bytes())
+}
+
+// Adds the end of a revert to a line.
+fn add_revert(line: &mut Bytes, alloc: Global, end: &RevertEnd) -> Result<(), NoMemory>
+    ensures { OnOk result (line.new ≡ line.old ++ revert_text end.now) }
+{
+    let text = match end {
+        RevertEnd::Done { removed, kept } => {
+            let kept = kept.as_slice().len();
+            format!(in alloc; "revert {removed} {kept}")?
+        }
+        RevertEnd::Unanswered { device } => format!(in alloc; "unanswered {device}")?,
     };
     line.extend_from_slice(text.as_bytes())
 }

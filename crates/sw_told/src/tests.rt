@@ -8,6 +8,8 @@ use sw_get::GetEnd;
 use sw_hashdir::{Entry, Floor, FloorKind};
 use sw_message::{Miss, Target};
 use sw_put::PutEnd;
+use sw_recon::{KeptCause, KeptEntry, RevertEnd};
+use sw_sync::{Failure, SyncEnd};
 use sw_types::{Bytes, Head, Items, Object, Stamp};
 
 // What is to be printed, behind the text that stands before it.
@@ -30,6 +32,12 @@ const TEXT: &str = "before\n\
     e 16 deleted 1000000000.00001 2 no\n\
     e 17 superseded 1000000000.00001\n\
     e 18 too-few-marks 0\n\
+    e 19 sync 2 1 0 3\n\
+    e 20 unanswered 1\n\
+    e 21 newer 1000000000.00001\n\
+    e 22 too-few 1000000000.00000 1\n\
+    e 23 revert 4 1\n\
+    e 24 unanswered 63\n\
     e 18446744073709551615 absent\n\
     s 3 0 1000000000.00000 durable 6162\n\
     s 3 11 1000000000.00000 plain -\n\
@@ -171,6 +179,51 @@ fn add_deletes(lines: &mut Vec<EndLine>, alloc: Global) -> Result<(), Fail> {
     )
 }
 
+fn add_syncs(lines: &mut Vec<EndLine>, alloc: Global) -> Result<(), Fail> {
+    let failure = Failure::Missed {
+        device: 1,
+        miss: Miss::NoReply,
+    };
+    let failed = vec![in alloc; failure, failure, failure]?;
+    add(
+        lines,
+        OpEnd::Sync(SyncEnd::Done {
+            commits: 2,
+            rebuilt: 1,
+            tombstones: 0,
+            failed: Items::from(failed),
+        }),
+    )?;
+    add(lines, OpEnd::Sync(SyncEnd::Unanswered { device: 1 }))?;
+    add(lines, OpEnd::Sync(SyncEnd::Newer { floor: floor()? }))?;
+    add(
+        lines,
+        OpEnd::Sync(SyncEnd::TooFew {
+            stamp: created()?,
+            have: 1,
+            misses: misses(alloc)?,
+        }),
+    )
+}
+
+fn add_reverts(lines: &mut Vec<EndLine>, alloc: Global) -> Result<(), Fail> {
+    let kept = vec![in alloc;
+        KeptEntry {
+            stamp: created()?,
+            index: 2,
+            cause: KeptCause::NotDurable,
+        },
+    ]?;
+    add(
+        lines,
+        OpEnd::Revert(RevertEnd::Done {
+            removed: 4,
+            kept: Items::from(kept),
+        }),
+    )?;
+    add(lines, OpEnd::Revert(RevertEnd::Unanswered { device: 63 }))
+}
+
 // Each end, and one with the greatest number.
 fn ends(alloc: Global) -> Result<Vec<EndLine>, Fail> {
     let mut lines = Vec::new(alloc);
@@ -178,6 +231,8 @@ fn ends(alloc: Global) -> Result<Vec<EndLine>, Fail> {
     add_gets(&mut lines, alloc)?;
     add_heads(&mut lines, alloc)?;
     add_deletes(&mut lines, alloc)?;
+    add_syncs(&mut lines, alloc)?;
+    add_reverts(&mut lines, alloc)?;
     lines.push(EndLine {
         operation: u64::MAX,
         end: OpEnd::Get(GetEnd::Absent),

@@ -59,7 +59,7 @@ fn run_input(alloc: Global, ring: &[u8], script: &[u8]) -> Result<Answer, RingFa
     ensures fault { IfErr result (λ fault. UnlessMemory RingFault.NoMemory fault (ring_of (ring_text ring.now) ≡ Err fault)) }
 {
     let cluster = read_ring(alloc, ring)?;
-    let mut world = World::new(alloc, cluster)?;
+    let mut world = World::new(alloc, &cluster)?;
     Ok(run_script(alloc, script, &mut world))
 }
 
@@ -71,7 +71,7 @@ fn last_line_alone(alloc: Global, status: Status) -> Answer
 }
 
 // The answer to a script over a fresh world.
-fn run_script(alloc: Global, script: &[u8], world: &mut World) -> Answer
+fn run_script(alloc: Global, script: &[u8], world: &mut World<'_>) -> Answer
     requires { length script.now ≤ greatest_script }
     ensures { StandsFor world.old empty_world → IsAnswerBy (ScriptGives world.old.cluster script.now) result }
 {

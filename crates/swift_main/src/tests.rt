@@ -108,6 +108,52 @@ fn tells_what_is_done(rt: HostRuntime) -> Result<(), Fail> {
     Ok(())
 }
 
+// Devices are down, come back, and lose their disks.
+#[test]
+fn goes_on_without_some_devices(rt: HostRuntime) -> Result<(), Fail> {
+    let cases = [
+        (
+            "put a/c/o 616263\nlose 0\nget a/c/o",
+            "e 1 created 1000000000.00000 3\ne 2 found 1000000000.00000 616263 1,2\n",
+        ),
+        (
+            "put a/c/o 616263\nlose 0\nlose 1\nget a/c/o",
+            "e 1 created 1000000000.00000 3\ne 2 too-few 1000000000.00000 1\n",
+        ),
+        // Device 3 takes the archive in place of device 1.
+        (
+            "stop 1\nput a/c/o 616263\nget a/c/o\nshow 3 a/c/o",
+            "e 1 created 1000000000.00000 3\n\
+             e 2 found 1000000000.00000 616263 0,1\n\
+             s 3 1 1000000000.00000 durable 6300\n",
+        ),
+        ("stop 1\nstop 3\nput a/c/o 616263", "e 1 too-few-synced 2\n"),
+        (
+            "stop 0\nget a/c/o\nstop 1\nget a/c/o",
+            "e 1 absent\ne 2 unanswered 0,1\n",
+        ),
+        (
+            "put a/c/o 616263\nstop 0\nstop 1\nget a/c/o",
+            "e 1 created 1000000000.00000 3\ne 2 unanswered 0,1\n",
+        ),
+        (
+            "stop 0\nput a/c/o 616263\nrestart 0\nshow 0 a/c/o",
+            "e 1 created 1000000000.00000 3\ns 0 empty\n",
+        ),
+        // A device that restarts has what it had.
+        (
+            "put a/c/o 616263\nstop 0\nstop 0\nrestart 0\nrestart 2\nget a/c/o\nshow 0 a/c/o",
+            "e 1 created 1000000000.00000 3\n\
+             e 2 found 1000000000.00000 616263 0,1\n\
+             s 0 0 1000000000.00000 durable 6162\n",
+        ),
+    ];
+    for (script, text) in cases {
+        expect_done(&rt, rt.alloc(), "", script, text)?;
+    }
+    Ok(())
+}
+
 // A ring stands before the first empty line, in one line or in more.
 #[test]
 fn runs_over_any_ring(rt: HostRuntime) -> Result<(), Fail> {
@@ -205,9 +251,9 @@ fn ends_at_the_first_fault(rt: HostRuntime) -> Result<(), Fail> {
         ("\nshow x a/c/o", 3, "line 1: 2\n"),
         // The built-in ring has no device 9.
         ("\nshow 9 a/c/o", 3, "line 1: 7\n"),
+        ("\nlose 9", 3, "line 1: 7\n"),
         // Forms that are read and not done yet.
         ("\nstart get a/c/o", 3, "line 1: 1\n"),
-        ("\nlose 0", 3, "line 1: 1\n"),
         ("\nrecon 0 a/c/o", 3, "line 1: 1\n"),
         (
             "\nput a/c/o 61\n\nput a/c/o 6g\nget a/c/o",
@@ -310,7 +356,7 @@ fn tells_failures_of_reading_and_writing(rt: HostRuntime) -> Result<(), Fail> {
 fn plays_a_script_after_another(rt: HostRuntime) -> Result<(), Fail> {
     let alloc = rt.alloc();
     let cluster = Cluster::read(alloc, built_in())?;
-    let mut world = World::new(alloc, cluster)?;
+    let mut world = World::new(alloc, &cluster)?;
     let mut text = Bytes::new(alloc);
     let scripts: [&[u8]; 3] = [b"put a/c/o 61\n", b"get a/c/o\nput a/c/o 62", b"head a/c/o"];
     for script in scripts {

@@ -1,3 +1,4 @@
+use Rattle.sw_core.proofs.Jobs.{revert-alone, sync-alone}
 use Rattle.sw_core.proofs.Operations.{delete-alone, get-alone, put-alone}
 use Rattle.sw_core.proofs.laws.alone_law.Goals as goal
 
@@ -9,3 +10,9 @@ returns-clause-get c = get-alone
 
 pub returns-clause-delete : goal.returns-clause-delete
 returns-clause-delete c = delete-alone
+
+pub returns-clause-revert : goal.returns-clause-revert
+returns-clause-revert c = revert-alone
+
+pub returns-clause-sync : goal.returns-clause-sync
+returns-clause-sync c = sync-alone

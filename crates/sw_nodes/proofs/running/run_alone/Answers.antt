@@ -4,7 +4,7 @@ use Rattle.sw_ring.specs.Cluster.{ClusterModel}
 use Rattle.sw_message.specs.Learnt.{Own}
 use Rattle.sw_message.specs.Running.{MayRun}
 use Rattle.sw_message.specs.Transcript.{Over, Step}
-use Rattle.sw_nodes.proofs.Alone.{are_handled}
+use Rattle.sw_nodes.proofs.Alone.{are_handled, left_down}
 use Rattle.sw_nodes.proofs.running.run_alone.Goals as goal
 
 -- an operation of the cluster that has handed out nothing may run over a link that tells nothing
@@ -22,3 +22,12 @@ returns-clause-runs g c = λ begun stands same.
       subst (λ (past : List Step). g.P.Operation.machine begun past Over) (append-nil runs.0) went.2,
       handled.0,
     )
+
+pub returns-in_err-run-clause-down : goal.returns-in_err-run-clause-down
+returns-in_err-run-clause-down g c = left_down c.args.nodes.now c.run.ensures.runs.0 c.run.new.link c.run.ensures.runs.1
+
+pub returns-then-is_wanting-clause-down : goal.returns-then-is_wanting-clause-down
+returns-then-is_wanting-clause-down g c = left_down c.args.nodes.now c.run.ensures.runs.0 c.run.new.link c.run.ensures.runs.1
+
+pub returns-clause-down : goal.returns-clause-down
+returns-clause-down g c = left_down c.args.nodes.now c.run.ensures.runs.0 c.run.new.link c.run.ensures.runs.1

@@ -1,5 +1,6 @@
 use Rattle.std.proofs.Common.{◌≡◌, [], Some, None, subst, refl}
 use Rattle.sw_ring.specs.Cluster.{ClusterModel}
+use Rattle.sw_ring.specs.Ring.{is_among}
 use Rattle.sw_delete.specs.Delete.{Begun, IsNext, delete_end}
 use Rattle.sw_delete.specs.Standing.{Stands}
 use Rattle.sw_nodes.specs.Nodes.{devices_of}
@@ -12,5 +13,5 @@ returns-clause-runs c =
     let begun : Begun = record { cluster = c.args.nodes.now.cluster; stamp = c.args.stamp; name = c.args.name.now } in
     let stands = subst (λ (cluster : ClusterModel). Stands c.in_ok-op.op (record begun { cluster = cluster }) []) c.cluster.ensures c.in_ok-op.ensures in
     let ran = c.in_ok-run_alone.ensures.runs begun stands refl in
-    ran_told begun.cluster (IsNext begun) (λ steps end. delete_end begun steps ≡ Some end) Delete c.args.operation (devices_of c.args.nodes.now.nodes) (devices_of c.run_alone.new.nodes.nodes) ran.0
+    ran_told begun.cluster (is_among c.args.nodes.now.down) (IsNext begun) (λ steps end. delete_end begun steps ≡ Some end) Delete c.args.operation (devices_of c.args.nodes.now.nodes) (devices_of c.run_alone.new.nodes.nodes) ran.0
     (record { run = ran.1.run; handled = ran.3; over = ran.2 }) c.into_end.result c.unwrap-end.result (c.run_alone.new.op.end ≡ None) (c.into_end.ensures.end begun ran.0 ran.1) c.unwrap-end.ensures c.tell.result c.tell.ensures

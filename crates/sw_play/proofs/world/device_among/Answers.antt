@@ -3,7 +3,7 @@ use Rattle.std.specs.Option.{is_some}
 use Rattle.std.proofs.lemmas.Bool.{eqb-true}
 use Rattle.std.proofs.lemmas.List.Quantifiers.{position-Some}
 use Rattle.sw_ring.specs.declared.device.Device.{Device}
-use Rattle.sw_nodes.proofs.Handling.{some_place}
+use Rattle.sw_nodes.proofs.Placing.{some_place}
 use Rattle.sw_play.proofs.world.device_among.Goals as goal
 
 pub returns-in_err-place-clause-known : goal.returns-in_err-place-clause-known

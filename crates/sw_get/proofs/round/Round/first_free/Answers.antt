@@ -2,7 +2,7 @@ use Rattle.std.proofs.Common.{sym, ap, ◌∙◌}
 use Rattle.std.specs.Prelude.{find}
 use Rattle.std.proofs.lemmas.List.{take_all}
 use Rattle.sw_get.specs.Round.{is_free}
-use Rattle.sw_get.proofs.Candidates.{found_here, none_more}
+use Rattle.sw_gather.proofs.Choosing.{found_here, none_more}
 use Rattle.sw_get.proofs.round.Round.first_free.Goals as goal
 
 pub returns-then-is_free : goal.returns-then-is_free

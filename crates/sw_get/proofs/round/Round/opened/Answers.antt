@@ -2,7 +2,7 @@ use Rattle.std.proofs.Common.{get_or, filter, refl, sym, ap, ◌∙◌}
 use Rattle.std.proofs.lemmas.List.{take_all}
 use Rattle.sw_message.specs.declared.target.Target.{Target}
 use Rattle.sw_get.specs.Round.{RoundModel, is_open}
-use Rattle.sw_get.proofs.Candidates.{filter_no, filter_yes}
+use Rattle.sw_gather.proofs.Choosing.{filter_no, filter_yes}
 use Rattle.sw_get.proofs.round.Round.opened.Goals as goal
 use Rattle.sw_get.proofs.round.Round.opened.Goals.{then-is_open+in_ok-push, else-is_open}
 

@@ -1,7 +1,7 @@
 -- An archive that stands beside those before it is brought by its source.
 use Rattle.std.proofs.Common.{◌++◌, ◌∷◌, [], List, ap, subst, ◌∙◌}
 use Rattle.sw_message.specs.declared.target.Target.{Target}
-use Rattle.sw_get.specs.Gathered.{Joins}
+use Rattle.sw_gather.specs.Gathered.{Joins}
 use Rattle.sw_get.specs.Inside.{round_seen}
 use Rattle.sw_get.specs.Meaning.{Brings, IsJoined, with_fetched}
 use Rattle.sw_get.specs.Round.{RoundModel}

@@ -3,7 +3,7 @@ use Rattle.std.proofs.lemmas.List.{take_all}
 use Rattle.sw_hashdir.specs.Listing.{ListingModel}
 use Rattle.sw_message.specs.Floors.{highest_from}
 use Rattle.sw_get.specs.Round.{RoundModel}
-use Rattle.sw_get.proofs.Candidates.{floors_more, floors_of}
+use Rattle.sw_gather.proofs.Choosing.{floors_more, floors_of}
 use Rattle.sw_get.proofs.round.Round.target.Goals as goal
 
 pub loop-listing-preserved : goal.loop-listing-preserved

@@ -2,7 +2,7 @@ use Rattle.std.proofs.Common.{◌≡◌, Some, ap, subst, ◌∙◌}
 use Rattle.std.specs.List.{slice_get}
 use Rattle.std.proofs.lemmas.Option.{get_or_from_slice_get}
 use Rattle.sw_nodes.specs.Nodes.{AreNodes, MemNode, NodesModel}
-use Rattle.sw_nodes.proofs.Handling.{named}
+use Rattle.sw_nodes.proofs.Placing.{named}
 use Rattle.sw_nodes.proofs.nodes.Nodes.disk.Goals as goal
 
 pub returns-clause-disk : goal.returns-clause-disk

@@ -3,7 +3,7 @@ use Rattle.std.specs.Prelude.{IsSome}
 use Rattle.std.specs.List.{position}
 use Rattle.sw_ring.specs.declared.device.Device.{Device}
 use Rattle.sw_nodes.specs.Nodes.{AreNodes, NodesModel}
-use Rattle.sw_nodes.proofs.Handling.{placed, some_there}
+use Rattle.sw_nodes.proofs.Placing.{placed, some_there}
 use Rattle.sw_nodes.proofs.nodes.Nodes.place_of.Goals as goal
 
 pub returns-clause-known : goal.returns-clause-known

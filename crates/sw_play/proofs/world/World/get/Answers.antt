@@ -15,7 +15,7 @@ Leads c old before = (past : List Step) × (after : World) × DoesGet old.cluste
 leads : (c : goal.After-self-1) (before : World) → StandsFor (world_seen c.self.inside) before → Leads c (world_seen c.self.inside) before
 leads c before stands =
     get_stands (world_seen c.self.inside) before stands (left_by c) c.in-Ok.ensures.cluster c.in-Ok.ensures.goes_on c.in-Ok.ensures.runs.0 c.in-Ok.told
-    c.args.name.now c.saturating_add-operation.result c.saturating_add-operation.ensures refl c.args.is_head refl c.in-Ok.ensures.runs.1
+    c.args.name.now c.saturating_add-operation.result c.saturating_add-operation.ensures refl c.in-Ok.ensures.down c.args.is_head refl c.in-Ok.ensures.runs.1
 
 pub invariant_of-self : goal.invariant_of-self
 invariant_of-self c goes =

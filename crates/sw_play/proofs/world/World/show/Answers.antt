@@ -1,10 +1,9 @@
-use Rattle.std.proofs.Common.{◌≡◌, ℕ, ap, subst, sym, ◌∙◌, List, Option}
-use Rattle.std.specs.Prelude.{IfSome}
+use Rattle.std.proofs.Common.{ℕ, ap, subst, sym, ◌∙◌, List}
 use Rattle.sw_message.specs.Transcript.{Step}
 use Rattle.sw_play.specs.Standing.{StandsFor, WorldModel}
 use Rattle.sw_play.specs.World.{DoesShow, World}
 use Rattle.sw_play.specs.WorldInside.{world_seen}
-use Rattle.sw_play.proofs.Stepping.{readable, show_stands}
+use Rattle.sw_play.proofs.Stepping.{number_of, readable, show_stands}
 use Rattle.sw_play.proofs.world.World.show.Goals as goal
 
 pub show_at-requires-clause-readable : goal.show_at-requires-clause-readable
@@ -14,7 +13,7 @@ show_at-requires-clause-readable c =
 
 pub returns-in-Ok-clause-does : goal.returns-in-Ok-clause-does
 returns-in-Ok-clause-does c before stands =
-    let is_number : c.unwrap-device.result ≡ c.args.number = subst (λ (found : Option ℕ). IfSome found (λ id. id ≡ c.args.number)) c.unwrap-device.ensures c.device_of.ensures.id in
+    let is_number = number_of c.device_of.result c.unwrap-device.result c.args.number c.unwrap-device.ensures c.device_of.ensures.id in
     let old = world_seen c.self.inside in
     subst (λ (model : WorldModel). (past : List Step) × (after : World) × DoesShow model.cluster before c.args.number c.args.name.now past c.in-Ok.told after × StandsFor model after) c.self.view_is
     (subst (λ (device : ℕ). (past : List Step) × (after : World) × DoesShow old.cluster before device c.args.name.now past c.in-Ok.told after × StandsFor old after) is_number

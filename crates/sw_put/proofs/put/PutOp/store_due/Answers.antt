@@ -5,7 +5,8 @@ use Rattle.std.proofs.lemmas.Option.{slice_get_within}
 use Rattle.sw_quorum.specs.Lookups.{looked-up, slice_get-behind, slice_get-front, slice_get_none}
 use Rattle.sw_quorum.specs.Places.{primaries_few}
 use Rattle.sw_put.specs.Plans.{replacement}
-use Rattle.sw_put.specs.Put.{place_of, replacements, targets_from}
+use Rattle.sw_put.specs.Put.{place_of, replacements}
+use Rattle.sw_quorum.specs.Targets.{targets_from}
 use Rattle.sw_put.proofs.Changes.{stores_due_is, stores_due_seen}
 use Rattle.sw_put.proofs.Dues.{length-targets_from, primary-at, replacement-at}
 use Rattle.sw_put.proofs.put.PutOp.store_due.Goals as goal

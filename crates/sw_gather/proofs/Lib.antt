@@ -1,0 +1,5 @@
+pub mod Choosing
+pub mod Joins
+pub mod Lists
+pub mod Mailboxes
+pub mod Sources

@@ -1,0 +1,4 @@
+pub mod Choices
+pub mod Gathered
+pub mod Mailbox
+pub mod MailboxInside

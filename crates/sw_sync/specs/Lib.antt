@@ -1,0 +1,11 @@
+pub mod BurialInside
+pub mod Causes
+pub mod HeardInside
+pub mod Hearing
+pub mod Inside
+pub mod Parts
+pub mod RepairInside
+pub mod Standing
+pub mod State
+pub mod StateInside
+pub mod Sync
