@@ -3,12 +3,15 @@ use Rattle.std.proofs.Common.{◌≡◌, ◌≢◌, inl, inr, ⊎_elim, ℕ, zer
 use Rattle.std.specs.List.{All}
 use Rattle.std.proofs.lemmas.Bool.{cases_eq}
 use Rattle.std.proofs.lemmas.List.Elements.{All-nil, Contains-append_cases, Contains-append_left, Contains-append_right}
+use Rattle.sw_words.specs.Counts.{one_more}
 use Rattle.sw_types.specs.Name.{NameModel}
 use Rattle.sw_types.specs.Object.{ObjectModel}
-use Rattle.sw_hashpath.specs.Place.{folder_of}
+use Rattle.sw_hashpath.specs.Place.{IsPlace, folder_of}
+use Rattle.sw_hashpath.proofs.Digests.{IsHash-md5}
 use Rattle.sw_archive.specs.Put.{IsPut}
-use Rattle.sw_ring.specs.Cluster.{ClusterModel}
+use Rattle.sw_ring.specs.Cluster.{ClusterModel, place_of_name}
 use Rattle.sw_message.specs.Learnt.{Booked, IsSoundBook}
+use Rattle.sw_message.specs.Message.{IsMember, is_primary}
 use Rattle.sw_message.specs.Transcript.{Step}
 use Rattle.sw_message.specs.declared.target.Target.{Target}
 use Rattle.sw_get.specs.Causes.{IsPutFound}
@@ -19,6 +22,7 @@ use Rattle.sw_scene.specs.Devices.{Devices}
 use Rattle.sw_scene.specs.Filed.{AreFiled, IsFiled}
 use Rattle.sw_scene.specs.Running.{RunsAlone, learnt_of}
 use Rattle.sw_scene.proofs.Filed.{same_filed}
+use Rattle.sw_core.proofs.Jobs.{revert-alone, sync-alone}
 use Rattle.sw_core.proofs.Operations.{delete-alone, found-put, get-alone, put-alone}
 use Rattle.sw_script.specs.declared.event.Event.{Event}
 use Rattle.sw_script.specs.declared.event.Event.TheVariants as event
@@ -26,10 +30,10 @@ use Rattle.sw_script.specs.declared.event.Job.{Job}
 use Rattle.sw_script.specs.declared.event.Job.TheVariants as job
 use Rattle.sw_told.specs.declared.end.EndLine.{EndLine}
 use Rattle.sw_told.specs.declared.end.OpEnd.{OpEnd}
-use Rattle.sw_told.specs.declared.end.OpEnd.TheVariants.{Put, Delete}
+use Rattle.sw_told.specs.declared.end.OpEnd.TheVariants.{Put, Delete, Sync, Revert}
 use Rattle.sw_told.specs.declared.told.Told.{Told}
 use Rattle.sw_play.specs.Story.{AllTellOnePut, AreDone, Done, IfFound, IfFoundEnd, IsOfName}
-use Rattle.sw_play.specs.World.{DoesDelete, DoesEvent, DoesGet, DoesPut, IsDrawn, IsSound, World, ended, get_of, gets_as, next_stamp, put_of}
+use Rattle.sw_play.specs.World.{DoesDelete, DoesEvent, DoesGet, DoesPut, DoesRecon, IsDrawn, IsSound, RanRecon, World, ended, get_of, gets_as, next_stamp, put_of, revert_of, sync_of}
 
 -- ---- stamps
 
@@ -133,12 +137,31 @@ module _ (cluster : ClusterModel) (before : World) (sound : IsSound cluster befo
     filed = get-alone (get_of cluster name) before.book before.down before.devices after.devices past (record { rules = sound.rules }) sound.book sound.filed does.ran.runs;
   })
 
+  right_place : (name : NameModel) → IsPlace cluster.part_power (place_of_name cluster name)
+  right_place name = record { hash = IsHash-md5 _; part = refl }
+
+  recon_filed : (device : ℕ) (name : NameModel) (operation : ℕ) → IsMember cluster device → (b : Bool) → is_primary cluster device (place_of_name cluster name) ≡ b
+      → RanRecon b cluster device name before.down operation before.devices past told after.devices → AreFiled cluster before.book after.devices
+  recon_filed device name operation member true primary ran =
+      sync-alone (sync_of cluster device name) before.book before.down before.devices after.devices past (record { rules = sound.rules; right = right_place name; primary = primary }) sound.book sound.filed ran.runs
+  recon_filed device name operation member false handoff ran =
+      revert-alone (revert_of cluster device name) before.book before.down before.devices after.devices past (record { rules = sound.rules; right = right_place name; member = member; handoff = handoff })
+      sound.book sound.filed ran.runs
+
+  after_recon : (device : ℕ) (name : NameModel) → DoesRecon cluster before device name past told after → IsSound cluster after
+  after_recon device name does = subst (IsSound cluster) (sym does.after_is) (record {
+    rules = sound.rules;
+    book = sound.book;
+    drawn = sound.drawn;
+    filed = recon_filed device name (one_more before.operations) does.member (is_primary cluster device (place_of_name cluster name)) refl does.ran;
+  })
+
   after_job : (run : Job) → DoesEvent cluster before (event.Run run) past told after → IsSound cluster after
   after_job (job.Put name object) does = after_put name object does
   after_job (job.Get name) does = after_get name false does
   after_job (job.Head name) does = after_get name true does
   after_job (job.Delete name) does = after_delete name does
-  after_job (job.Recon device name) does = absurd does
+  after_job (job.Recon device name) does = after_recon device name does
 
   -- a sound world stays so
   pub sound_after : (done : Event) → DoesEvent cluster before done past told after → IsSound cluster after
@@ -181,6 +204,11 @@ module _ (cluster : ClusterModel) (before : World) (sound : IsSound cluster befo
   found_as done true end found = found
   found_as done false end found = found
 
+  recon_line : (device : ℕ) (name : NameModel) (operation : ℕ) (b : Bool) → RanRecon b cluster device name before.down operation before.devices past told after.devices → (line : EndLine) → Contains told.ends line
+      → IfFoundEnd line.end (SaysOnePut (event.Run (job.Recon device name)))
+  recon_line device name operation true ran line there = subst (λ (end : OpEnd). IfFoundEnd end (SaysOnePut (event.Run (job.Recon device name)))) (sym (the_line operation (Sync ran.end) line ran.told_is there)) tt
+  recon_line device name operation false ran line there = subst (λ (end : OpEnd). IfFoundEnd end (SaysOnePut (event.Run (job.Recon device name)))) (sym (the_line operation (Revert ran.end) line ran.told_is there)) tt
+
   tell_job : (run : Job) → DoesEvent cluster before (event.Run run) past told after → (line : EndLine) → Contains told.ends line → IfFoundEnd line.end (SaysOnePut (event.Run run))
   tell_job (job.Put name object) does line there = subst (λ (end : OpEnd). IfFoundEnd end (SaysOnePut (event.Run (job.Put name object)))) (sym (the_line _ (Put does.ran.end) line does.ran.told_is there)) tt
   tell_job (job.Get name) does line there =
@@ -190,7 +218,7 @@ module _ (cluster : ClusterModel) (before : World) (sound : IsSound cluster befo
       subst (λ (end : OpEnd). IfFoundEnd end (SaysOnePut (event.Run (job.Head name)))) (sym (the_line _ (gets_as true does.ran.end) line does.ran.told_is there))
       (found_as (event.Run (job.Head name)) true does.ran.end (found_by (event.Run (job.Head name)) name (inr refl) does.ran.runs does.ran.end does.ran.ends))
   tell_job (job.Delete name) does line there = subst (λ (end : OpEnd). IfFoundEnd end (SaysOnePut (event.Run (job.Delete name)))) (sym (the_line _ (Delete does.ran.end) line does.ran.told_is there)) tt
-  tell_job (job.Recon device name) does line there = absurd does
+  tell_job (job.Recon device name) does line there = recon_line device name (one_more before.operations) (is_primary cluster device (place_of_name cluster name)) does.ran line there
 
   -- what is told of a found object in a sound world is one put's
   pub tells : (done : Event) → DoesEvent cluster before done past told after → (line : EndLine) → Contains told.ends line → IfFoundEnd line.end (SaysOnePut done)

@@ -14,6 +14,7 @@ use Rattle.sw_archive.specs.Archive.{IsArchive}
 use Rattle.sw_archive.proofs.Archives.{put_is_archive}
 use Rattle.sw_ring.specs.Cluster.{ClusterModel, KeepsRules, place_of_name}
 use Rattle.sw_ring.specs.Ring.{is_among}
+use Rattle.sw_message.specs.Message.{IsMember, is_primary}
 use Rattle.sw_message.specs.Transcript.{Step}
 use Rattle.sw_message.specs.Warrant.{IsOfPut}
 use Rattle.sw_nodes.specs.Nodes.{Loses, MemNode, NodesModel, Restarts, Stops, devices_of}
@@ -21,11 +22,11 @@ use Rattle.sw_scene.specs.Filed.{IsFiled}
 use Rattle.sw_script.specs.declared.event.Event.{Event}
 use Rattle.sw_script.specs.declared.event.Event.TheVariants as event
 use Rattle.sw_script.specs.declared.event.Job.TheVariants as job
-use Rattle.sw_told.specs.declared.end.OpEnd.TheVariants.{Put, Delete}
+use Rattle.sw_told.specs.declared.end.OpEnd.TheVariants.{Put, Delete, Sync, Revert}
 use Rattle.sw_told.specs.declared.told.Told.{Told}
 use Rattle.sw_play.specs.Show.{IsReadable, IsShown}
 use Rattle.sw_play.specs.Standing.{StandsFor, WorldModel}
-use Rattle.sw_play.specs.World.{DoesDelete, DoesEvent, DoesGet, DoesLose, DoesPut, DoesRestart, DoesShow, DoesStop, IsQuiet, IsSound, RanDelete, RanGet, RanPut, World, empty_world, gets_as, next_stamp}
+use Rattle.sw_play.specs.World.{DoesDelete, DoesEvent, DoesGet, DoesLose, DoesPut, DoesRecon, DoesRestart, DoesShow, DoesStop, IsQuiet, IsSound, RanDelete, RanGet, RanPut, RanRecon, World, empty_world, gets_as, next_stamp}
 use Rattle.sw_play.specs.WorldInside.{world_seen}
 use Rattle.sw_play.specs.declared.world.World.TheInside.{Inside}
 use Rattle.sw_play.proofs.Ran.{ran_from}
@@ -139,6 +140,18 @@ module _ (old : WorldModel) (before : World) (stands : StandsFor old before) (ne
         as_does : (head : Bool) (after : World) → DoesGet old.cluster before name head past told after → DoesEvent old.cluster before (as_event head) past told after
         as_does true after does = does
         as_does false after does = does
+
+    pub recon_stands : (device : ℕ) → IsMember old.cluster device → new.last ≡ old.last
+        → RanRecon (is_primary old.cluster device (place_of_name old.cluster name)) old.cluster device name (is_among old.down) operation (devices_of old.nodes) past told (devices_of new.nodes) → Leads (DoesRecon old.cluster before device name)
+    recon_stands device member left_last ran =
+        let after : World = record before { devices = devices_of new.nodes; operations = one_more before.operations } in
+        let does : DoesRecon old.cluster before device name past told after = record { member = member; ran = from (is_primary old.cluster device (place_of_name old.cluster name)) ran; after_is = refl } in
+        (past, after, does, stands_after after (event.Run (job.Recon device name)) does (λ device path. refl) still_down (stands.last ∙ sym left_last) (next_count ∙ sym left_operations))
+      where
+        from : (b : Bool) → RanRecon b old.cluster device name (is_among old.down) operation (devices_of old.nodes) past told (devices_of new.nodes)
+            → RanRecon b old.cluster device name before.down (one_more before.operations) before.devices past told (devices_of new.nodes)
+        from true ran = rw next_count (ran_from old.cluster (is_among old.down) _ _ Sync operation (devices_of old.nodes) (devices_of new.nodes) before.down before.devices same_down same_files past told ran)
+        from false ran = rw next_count (ran_from old.cluster (is_among old.down) _ _ Revert operation (devices_of old.nodes) (devices_of new.nodes) before.down before.devices same_down same_files past told ran)
 
 -- ---- devices that stop, restart, and lose their disks
 

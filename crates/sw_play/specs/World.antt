@@ -8,12 +8,15 @@ use Rattle.sw_hashpath.specs.Place.{folder_of}
 use Rattle.sw_archive.specs.Put.{IsPut}
 use Rattle.sw_ring.specs.Cluster.{ClusterModel, KeepsRules, ids_of, place_of_name}
 use Rattle.sw_ring.specs.Ring.{is_among}
+use Rattle.sw_message.specs.Message.{IsMember, is_primary}
 use Rattle.sw_message.specs.Learnt.{Booked, IsSoundBook, Marked}
 use Rattle.sw_message.specs.Transcript.{Next, Step}
 use Rattle.sw_delete.specs.Delete as deletes
 use Rattle.sw_get.specs.Get as gets
 use Rattle.sw_get.specs.declared.end.GetEnd.{GetEnd}
 use Rattle.sw_put.specs.Put as puts
+use Rattle.sw_recon.specs.Revert as reverts
+use Rattle.sw_sync.specs.Sync as syncs
 use Rattle.sw_scene.specs.Devices.{AreSame, Devices, no_files}
 use Rattle.sw_scene.specs.Filed.{AreFiled}
 use Rattle.sw_scene.specs.Running.{RunsAlone}
@@ -24,7 +27,7 @@ use Rattle.sw_script.specs.declared.event.Job.TheVariants as job
 use Rattle.sw_script.specs.declared.fault.LineFault.{LineFault}
 use Rattle.sw_script.specs.declared.fault.LineFault.TheVariants.{Form, NoDevice}
 use Rattle.sw_told.specs.declared.end.OpEnd.{OpEnd}
-use Rattle.sw_told.specs.declared.end.OpEnd.TheVariants.{Put, Get, Head, Delete}
+use Rattle.sw_told.specs.declared.end.OpEnd.TheVariants.{Put, Get, Head, Delete, Sync, Revert}
 use Rattle.sw_told.specs.declared.told.Told.{Told}
 use Rattle.sw_play.specs.Show.{IsShown}
 
@@ -87,6 +90,12 @@ delete_of cluster world name = record { cluster = cluster; stamp = next_stamp wo
 abbrev pub get_of : ClusterModel → NameModel → gets.Begun
 get_of cluster name = record { cluster = cluster; name = name }
 
+abbrev pub sync_of : ClusterModel → ℕ → NameModel → syncs.Begun
+sync_of cluster device name = record { cluster = cluster; device = device; place = place_of_name cluster name }
+
+abbrev pub revert_of : ClusterModel → ℕ → NameModel → reverts.Begun
+revert_of cluster device name = record { cluster = cluster; device = device; place = place_of_name cluster name }
+
 -- a get is told with its object, or with that of a head
 abbrev pub gets_as : Bool → GetEnd → OpEnd
 gets_as is_head end = if is_head then Head end else Get end
@@ -106,6 +115,17 @@ RanDelete begun down operation before past told after = RanTo begun.cluster down
 
 abbrev pub RanGet : gets.Begun → (down : ℕ → Bool) → (GetEnd → OpEnd) → (operation : ℕ) → (before : Devices) → List Step → Told → (after : Devices) → Type 0
 RanGet begun down as_end operation before past told after = RanTo begun.cluster down (gets.IsNext begun) (gets.IsEnd begun) as_end operation before past told after
+
+abbrev pub RanSync : syncs.Begun → (down : ℕ → Bool) → (operation : ℕ) → (before : Devices) → List Step → Told → (after : Devices) → Type 0
+RanSync begun down operation before past told after = RanTo begun.cluster down (syncs.IsNext begun) (syncs.IsEnd begun) Sync operation before past told after
+
+abbrev pub RanRevert : reverts.Begun → (down : ℕ → Bool) → (operation : ℕ) → (before : Devices) → List Step → Told → (after : Devices) → Type 0
+RanRevert begun down operation before past told after = RanTo begun.cluster down (reverts.IsNext begun) (reverts.IsEnd begun) Revert operation before past told after
+
+-- of a device's reconstructor: a sync where it is a primary of the name's place, and else a revert
+abbrev pub RanRecon : (is_primary : Bool) → ClusterModel → (device : ℕ) → NameModel → (down : ℕ → Bool) → (operation : ℕ) → (before : Devices) → List Step → Told → (after : Devices) → Type 0
+RanRecon true cluster device name down operation before past told after = RanSync (sync_of cluster device name) down operation before past told after
+RanRecon false cluster device name down operation before past told after = RanRevert (revert_of cluster device name) down operation before past told after
 
 pub record DoesPut (cluster : ClusterModel) (before : World) (name : NameModel) (object : ObjectModel) (past : List Step) (told : Told) (after : World) : Type 0 where
   pub spare : next_stamp before.last ≤ greatest_stamp
@@ -134,6 +154,11 @@ pub record DoesDelete (cluster : ClusterModel) (before : World) (name : NameMode
 
 pub record DoesGet (cluster : ClusterModel) (before : World) (name : NameModel) (is_head : Bool) (past : List Step) (told : Told) (after : World) : Type 0 where
   pub ran : RanGet (get_of cluster name) before.down (gets_as is_head) (one_more before.operations) before.devices past told after.devices
+  pub after_is : after ≡ record before { devices = after.devices; operations = one_more before.operations }
+
+pub record DoesRecon (cluster : ClusterModel) (before : World) (device : ℕ) (name : NameModel) (past : List Step) (told : Told) (after : World) : Type 0 where
+  pub member : IsMember cluster device
+  pub ran : RanRecon (is_primary cluster device (place_of_name cluster name)) cluster device name before.down (one_more before.operations) before.devices past told after.devices
   pub after_is : after ≡ record before { devices = after.devices; operations = one_more before.operations }
 
 -- what the device has in the folder of the name is told
@@ -173,7 +198,7 @@ DoesJob cluster before (job.Put name object) past told after = DoesPut cluster b
 DoesJob cluster before (job.Get name) past told after = DoesGet cluster before name false past told after
 DoesJob cluster before (job.Head name) past told after = DoesGet cluster before name true past told after
 DoesJob cluster before (job.Delete name) past told after = DoesDelete cluster before name past told after
-DoesJob cluster before (job.Recon device name) past told after = ⊥
+DoesJob cluster before (job.Recon device name) past told after = DoesRecon cluster before device name past told after
 
 -- An event leads from a world to another one, by these steps of its operation, if it runs one, and this is told of it.
 abbrev pub DoesEvent : ClusterModel → World → Event → List Step → Told → World → Type 0
@@ -186,18 +211,18 @@ DoesEvent cluster before other past told after = ⊥
 
 -- ---- which events there are
 
--- puts, gets, heads and deletes are done
-abbrev pub job_fault : Job → Option LineFault
-job_fault (job.Recon device name) = Some Form
-job_fault other = None
-
 abbrev pub device_fault : ClusterModel → ℕ → Option LineFault
 device_fault cluster device = if is_among (ids_of cluster) device then None else Some NoDevice
+
+-- the device of a reconstructor is one of the cluster
+abbrev pub job_fault : ClusterModel → Job → Option LineFault
+job_fault cluster (job.Recon device name) = device_fault cluster device
+job_fault cluster other = None
 
 -- The fault of an event's line in scripts of the cluster: its form is not done yet, or it names no device. Jobs run at once; devices are
 -- shown, stop, restart and lose their disks.
 abbrev pub event_fault : ClusterModel → Event → Option LineFault
-event_fault cluster (event.Run job) = job_fault job
+event_fault cluster (event.Run job) = job_fault cluster job
 event_fault cluster (event.Show device name) = device_fault cluster device
 event_fault cluster (event.Stop device) = device_fault cluster device
 event_fault cluster (event.Restart device) = device_fault cluster device

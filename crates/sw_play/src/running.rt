@@ -1,18 +1,25 @@
 //! Operations over the nodes of a world, each run alone, and what is told of them.
 
-ghost use Rattle.std.specs.Prelude.{◌≡◌, ◌≤◌, List, None, OnOk, IfOk, false};
+ghost use Rattle.std.specs.Prelude.{◌≡◌, ◌≤◌, List, None, OnOk, IfOk, false, true};
 ghost use Rattle.sw_types.specs.Stamp.{greatest_stamp};
 ghost use Rattle.sw_archive.specs.Put.{IsPut};
+ghost use Rattle.sw_hashpath.specs.Place.{IsPlace};
+ghost use Rattle.sw_ring.specs.Cluster.{place_of_name};
 ghost use Rattle.sw_ring.specs.Ring.{is_among};
+ghost use Rattle.sw_message.specs.Message.{IsMember, is_primary};
 ghost use Rattle.sw_message.specs.Transcript.{Step};
 ghost use Rattle.sw_nodes.specs.Nodes.{devices_of};
-ghost use Rattle.sw_play.specs.World.{RanDelete, RanGet, RanPut, ended, gets_as};
+ghost use Rattle.sw_play.specs.World.{RanDelete, RanGet, RanPut, RanRecon, RanRevert, RanSync, ended, gets_as};
 
 use std::alloc::Global;
 use sw_delete::DeleteOp;
 use sw_get::{GetEnd, GetOp};
+use sw_hashpath::Place;
 use sw_nodes::{Nodes, run_alone};
 use sw_put::PutOp;
+use sw_recon::RevertJob;
+use sw_ring::Cluster;
+use sw_sync::SyncJob;
 use sw_told::{EndLine, OpEnd, Told};
 use sw_types::{Items, Name, NoMemory, Object, Stamp};
 
@@ -80,6 +87,80 @@ pub(crate) fn run_get(
     run_alone(&mut op, nodes)?;
     let end = op.into_end().unwrap();
     tell(alloc, operation, gets_as(is_head, end))
+}
+
+/// Runs the job of a device's reconstructor for a name: a sync where it is a primary of the name's place, and else a revert.
+pub(crate) fn run_recon<'a>(
+    alloc: Global,
+    cluster: &'a Cluster,
+    nodes: &mut Nodes<'a>,
+    operation: u64,
+    device: u16,
+    name: &Name,
+) -> Result<Told, NoMemory>
+    requires same { nodes.old.cluster ≡ cluster.now }
+    requires member { IsMember cluster.now device }
+    ensures runs { IfOk result (λ told. (past : List Step) × RanRecon (is_primary cluster.now device (place_of_name cluster.now name.now)) cluster.now device name.now (is_among nodes.old.down)
+        operation (devices_of nodes.old.nodes) past told (devices_of nodes.new.nodes)) }
+    ensures goes_on { OnOk result (nodes.new.is_wanting ≡ false) }
+    ensures cluster { nodes.new.cluster ≡ nodes.old.cluster }
+    ensures down { nodes.new.down ≡ nodes.old.down }
+{
+    let place = cluster.place(alloc, name)?;
+    if cluster.index_of(place.part(), device).is_some() {
+        run_sync(alloc, cluster, nodes, operation, device, place)
+    } else {
+        run_revert(alloc, cluster, nodes, operation, device, place)
+    }
+}
+
+// Runs a sync of a place by one of its primaries.
+fn run_sync<'a>(
+    alloc: Global,
+    cluster: &'a Cluster,
+    nodes: &mut Nodes<'a>,
+    operation: u64,
+    device: u16,
+    place: Place,
+) -> Result<Told, NoMemory>
+    requires same { nodes.old.cluster ≡ cluster.now }
+    requires right { IsPlace cluster.now.part_power place }
+    requires primary { is_primary cluster.now device place ≡ true }
+    ensures runs { IfOk result (λ told. (past : List Step) × RanSync (record { cluster = cluster.now; device = device; place = place }) (is_among nodes.old.down)
+        operation (devices_of nodes.old.nodes) past told (devices_of nodes.new.nodes)) }
+    ensures goes_on { OnOk result (nodes.new.is_wanting ≡ false) }
+    ensures cluster { nodes.new.cluster ≡ nodes.old.cluster }
+    ensures down { nodes.new.down ≡ nodes.old.down }
+{
+    let mut job = SyncJob::begin(alloc, cluster, device, place)?;
+    run_alone(&mut job, nodes)?;
+    let end = job.into_end().unwrap();
+    tell(alloc, operation, OpEnd::Sync(end))
+}
+
+// Runs a revert of a place by one of its handoffs.
+fn run_revert<'a>(
+    alloc: Global,
+    cluster: &'a Cluster,
+    nodes: &mut Nodes<'a>,
+    operation: u64,
+    device: u16,
+    place: Place,
+) -> Result<Told, NoMemory>
+    requires same { nodes.old.cluster ≡ cluster.now }
+    requires right { IsPlace cluster.now.part_power place }
+    requires member { IsMember cluster.now device }
+    requires handoff { is_primary cluster.now device place ≡ false }
+    ensures runs { IfOk result (λ told. (past : List Step) × RanRevert (record { cluster = cluster.now; device = device; place = place }) (is_among nodes.old.down)
+        operation (devices_of nodes.old.nodes) past told (devices_of nodes.new.nodes)) }
+    ensures goes_on { OnOk result (nodes.new.is_wanting ≡ false) }
+    ensures cluster { nodes.new.cluster ≡ nodes.old.cluster }
+    ensures down { nodes.new.down ≡ nodes.old.down }
+{
+    let mut job = RevertJob::begin(alloc, cluster, device, place);
+    run_alone(&mut job, nodes)?;
+    let end = job.into_end().unwrap();
+    tell(alloc, operation, OpEnd::Revert(end))
 }
 
 // The end of a get, or of a head.

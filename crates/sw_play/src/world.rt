@@ -13,10 +13,10 @@ ghost use Rattle.sw_nodes.specs.Nodes.{devices_of};
 ghost use Rattle.sw_script.specs.declared.event.Event.TheVariants.{Run};
 ghost use Rattle.sw_play.specs.Show.{IsReadable, IsShown};
 ghost use Rattle.sw_play.specs.Standing.{StandsFor};
-ghost use Rattle.sw_play.specs.World.{DoesDelete, DoesEvent, DoesGet, DoesJob, DoesLose, DoesPut, DoesRestart, DoesShow, DoesStop, World as AWorld, device_fault, empty_world, event_fault, is_drawing, job_fault, next_stamp};
+ghost use Rattle.sw_play.specs.World.{DoesDelete, DoesEvent, DoesGet, DoesJob, DoesLose, DoesPut, DoesRecon, DoesRestart, DoesShow, DoesStop, World as AWorld, device_fault, empty_world, event_fault, is_drawing, job_fault, next_stamp};
 
 use crate::fault::StepFault;
-use crate::running::{run_delete, run_get, run_put};
+use crate::running::{run_delete, run_get, run_put, run_recon};
 use crate::show::shown;
 use std::alloc::Global;
 use std::marker::Model;
@@ -76,7 +76,7 @@ impl<'a> World<'a> {
         ensures { result ≡ event_fault self.now.cluster event.now }
     {
         match event {
-            Event::Run(Job::Recon { .. }) => Some(LineFault::Form),
+            Event::Run(Job::Recon { device, name: _ }) => self.device_fault(*device),
             Event::Run(_) => None,
             Event::Show { device, name: _ } => self.device_fault(*device),
             Event::Stop(device) => self.device_fault(*device),
@@ -146,7 +146,7 @@ impl<'a> World<'a> {
     // Runs an operation at once.
     fn run(&mut self, job: &Job) -> Result<Told, StepFault>
         requires goes_on { self.old.is_wanting ≡ false }
-        requires known { job_fault job.now ≡ None }
+        requires known { job_fault self.old.cluster job.now ≡ None }
         ensures does { (before : AWorld) → StandsFor self.old before →
             IfOk result (λ told. (past : List Step) × (after : AWorld) × DoesJob self.old.cluster before job.now past told after × StandsFor self.new after) }
         ensures spent { IsErrOf result StepFault.StampsSpent → (is_drawing (Run job.now) ≡ true) × (greatest_stamp < next_stamp self.old.last) × (self.new ≡ self.old) }
@@ -158,7 +158,7 @@ impl<'a> World<'a> {
             Job::Delete(name) => self.delete(name),
             Job::Get(name) => self.get(name, false),
             Job::Head(name) => self.get(name, true),
-            Job::Recon { .. } => unreachable!(),
+            Job::Recon { device, name } => self.recon(*device, name),
         }
     }
 
@@ -224,6 +224,30 @@ impl<'a> World<'a> {
     {
         let operation = self.operations.saturating_add(1);
         match run_get(self.alloc, &mut self.nodes, operation, name, is_head) {
+            Ok(told) => {
+                self.operations = operation;
+                Ok(told)
+            }
+            Err(NoMemory) => {
+                self.nodes.give_up();
+                Err(StepFault::NoMemory)
+            }
+        }
+    }
+
+    // Runs the job of a device's reconstructor for a name.
+    fn recon(&mut self, number: u64, name: &Name) -> Result<Told, StepFault>
+        requires goes_on { self.old.is_wanting ≡ false }
+        requires member { is_among (ids_of self.old.cluster) number ≡ true }
+        ensures does { (before : AWorld) → StandsFor self.old before →
+            IfOk result (λ told. (past : List Step) × (after : AWorld) × DoesRecon self.old.cluster before number name.now past told after × StandsFor self.new after) }
+        ensures fault { IfErr result (λ fault. (fault ≡ StepFault.NoMemory) × (self.new.is_wanting ≡ true)) }
+        ensures cluster { self.new.cluster ≡ self.old.cluster }
+    {
+        let device = self.device_of(number).unwrap();
+        let operation = self.operations.saturating_add(1);
+        let cluster = self.nodes.cluster();
+        match run_recon(self.alloc, cluster, &mut self.nodes, operation, device, name) {
             Ok(told) => {
                 self.operations = operation;
                 Ok(told)

@@ -100,7 +100,7 @@ pub record AreBrought (begun : Begun) (past : List Step) (stamp : ℕ) (archives
   pub each : All (WasBrought begun past stamp) archives
   pub distinct : AllPairs (λ a b. a.index ≢ b.index) archives
 
--- bytes are the archive of an index, rebuilt from k others of different indices, each brought by a source
+-- bytes are the archive of an index, rebuilt from k archives of different indices, each brought by a source
 pub record WasRebuilt (begun : Begun) (past : List Step) (stamp index : ℕ) (bytes : List ℕ) : Type 0 where
   pub archives : List ArchiveModel
   pub brought : AreBrought begun past stamp archives

@@ -154,6 +154,58 @@ fn goes_on_without_some_devices(rt: HostRuntime) -> Result<(), Fail> {
     Ok(())
 }
 
+// Primaries and handoffs bring to others what they keep.
+#[test]
+fn repairs_what_devices_missed(rt: HostRuntime) -> Result<(), Fail> {
+    let cases = [
+        // A handoff brings the archive home, and then has nothing more to bring.
+        (
+            "stop 1\nput a/c/o 616263\nget a/c/o\nrestart 1\nrecon 3 a/c/o\n\
+             show 1 a/c/o\nshow 3 a/c/o\nrecon 3 a/c/o",
+            "e 1 created 1000000000.00000 3\n\
+             e 2 found 1000000000.00000 616263 0,1\n\
+             e 3 revert 1 0\n\
+             s 1 1 1000000000.00000 durable 6300\n\
+             s 3 empty\n\
+             e 4 revert 0 0\n",
+        ),
+        // It keeps what is not durable; and nobody answers for it while it is down.
+        (
+            "stop 1\nstop 2\nput a/c/o 616263\nrestart 1\nrestart 2\nrecon 3 a/c/o\n\
+             stop 3\nrecon 3 a/c/o",
+            "e 1 too-few-synced 2\ne 2 revert 0 1\ne 3 unanswered 3\n",
+        ),
+        (
+            "put a/c/o 616263\nlose 1\nrecon 0 a/c/o\nshow 1 a/c/o",
+            "e 1 created 1000000000.00000 3\n\
+             e 2 sync 0 1 0 0\n\
+             s 1 1 1000000000.00000 durable 6300\n",
+        ),
+        (
+            "put a/c/o 616263\nlose 0\nlose 1\nrecon 2 a/c/o",
+            "e 1 created 1000000000.00000 3\ne 2 too-few 1000000000.00000 1\n",
+        ),
+        // A tombstone goes to the primary that missed it, and that one has nothing to bring while it is older.
+        (
+            "put a/c/o 616263\nstop 2\ndel a/c/o\nrestart 2\nrecon 2 a/c/o\nrecon 0 a/c/o\nshow 2 a/c/o",
+            "e 1 created 1000000000.00000 3\n\
+             e 2 deleted 1000000000.00001 3 yes\n\
+             e 3 newer 1000000000.00001\n\
+             e 4 sync 0 0 1 0\n\
+             s 2 - 1000000000.00001 tombstone\n",
+        ),
+        // A primary that is down fails.
+        (
+            "put a/c/o 616263\nstop 2\nrecon 0 a/c/o\nstop 0\nrecon 0 a/c/o",
+            "e 1 created 1000000000.00000 3\ne 2 sync 0 0 0 1\ne 3 unanswered 0\n",
+        ),
+    ];
+    for (script, text) in cases {
+        expect_done(&rt, rt.alloc(), "", script, text)?;
+    }
+    Ok(())
+}
+
 // A ring stands before the first empty line, in one line or in more.
 #[test]
 fn runs_over_any_ring(rt: HostRuntime) -> Result<(), Fail> {
@@ -252,9 +304,9 @@ fn ends_at_the_first_fault(rt: HostRuntime) -> Result<(), Fail> {
         // The built-in ring has no device 9.
         ("\nshow 9 a/c/o", 3, "line 1: 7\n"),
         ("\nlose 9", 3, "line 1: 7\n"),
-        // Forms that are read and not done yet.
-        ("\nstart get a/c/o", 3, "line 1: 1\n"),
-        ("\nrecon 0 a/c/o", 3, "line 1: 1\n"),
+        ("\nrecon 9 a/c/o", 3, "line 1: 7\n"),
+        // A form that is read and not done yet.
+        ("\nstart recon 0 a/c/o", 3, "line 1: 1\n"),
         (
             "\nput a/c/o 61\n\nput a/c/o 6g\nget a/c/o",
             3,

@@ -23,3 +23,6 @@ returns-in-Get-clause-does c before stands = subst (Leads c.args.self.now.cluste
 
 pub returns-in-Head-clause-does : goal.returns-in-Head-clause-does
 returns-in-Head-clause-does c before stands = subst (Leads c.args.self.now.cluster before c.get-in-Head.result c.get-in-Head.new.self) (sym c.in-Head.is) (c.get-in-Head.ensures.does before stands)
+
+pub returns-in-Recon-clause-does : goal.returns-in-Recon-clause-does
+returns-in-Recon-clause-does c before stands = subst (Leads c.args.self.now.cluster before c.recon.result c.recon.new.self) (sym c.in-Recon.is) (c.recon.ensures.does before stands)
