@@ -21,8 +21,9 @@ use sw_message::Reply;
 use sw_ring::Cluster;
 use sw_types::NoMemory;
 
-/// A sync. It asks every device of a place what it has. A tombstone that is its own device's floor goes to the other primaries; the
-/// entries of a stamp that is its floor are made durable at the primaries that list them, and rebuilt at those that lack theirs.
+/// A sync. It asks every device of a place what it has. A tombstone that is its own device's floor goes to the primaries that list a
+/// smaller floor or none; of a stamp that is its floor, durable, primaries are told to make durable the entries that they list plain,
+/// and are sent the archives that they lack, rebuilt from k that others have.
 #[derive(Debug, Drop)]
 pub struct SyncJob<'a> {
     pub(crate) alloc: Global,

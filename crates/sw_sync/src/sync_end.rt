@@ -29,12 +29,13 @@ pub enum SyncEnd {
     Unanswered {
         device: u16,
     },
-    /// The greatest floor that a device showed is above that of the job's own device.
+    /// The greatest floor that a device listed as it was asked is above that of the job's own device.
     Newer {
         floor: Floor,
     },
     /// A primary lacks its archive, and archives of fewer than k indices were to be had. `have` is the number of indices that are
-    /// listed where these are fewer than k, and else that of the archives that were brought.
+    /// listed where these are fewer than k, and else that of the archives that were brought. The misses are those of the devices that
+    /// were asked, and then those of the sources that archives were fetched from.
     TooFew {
         stamp: Stamp,
         have: u32,
