@@ -1,26 +1,29 @@
--- Each device of the place is asked once, the handoffs first.
-use Rattle.std.proofs.Common.{◌≡◌, inl, inr, ℕ, ◌+◌, ◌<◌, ◌≤◌, ◌^◌, ◌==◌, Bool, true, false, cond, Contains, List, [], ◌∷◌, map, Option, Some, refl, sym, ap, subst, ◌∙◌, arith}
+-- Each device of the cluster is asked once, the handoffs of the place first.
+use Rattle.std.proofs.Common.{◌≡◌, inl, inr, ℕ, ◌+◌, ◌<◌, ◌≤◌, ◌^◌, ◌==◌, ◌⊎◌, Bool, true, false, not, cond, Contains, List, [], ◌∷◌, map, Option, Some, refl, sym, ap, subst, ◌∙◌, arith}
 use Rattle.std.specs.Prelude.{if◌then◌else◌}
 use Rattle.std.specs.List.{All, count_by, find, sum_by}
-use Rattle.std.proofs.lemmas.Bool.{cases_lt, eq-eqb, eqb-true, true≢false}
-use Rattle.std.proofs.lemmas.List.Elements.{All-contains, All-cons, All-nil, All-weaker}
+use Rattle.std.proofs.lemmas.Bool.{cases_Bool, cases_lt, eq-eqb, eqb-true, true≢false}
+use Rattle.std.proofs.lemmas.List.Elements.{All-contains, All-cons, All-head, All-nil, All-rest, All-weaker}
 use Rattle.std.proofs.lemmas.List.Sums.{sum_by-cons}
 use Rattle.std.proofs.lemmas.Option.{none-some, same_Some}
 use Rattle.sw_hashpath.specs.Laws.{part_below}
 use Rattle.sw_hashdir.specs.Listing.{ListingModel}
-use Rattle.sw_ring.proofs.Among.{Contains-cons}
-use Rattle.sw_message.specs.Message.{IsMember}
+use Rattle.sw_ring.specs.Cluster.{column_of, ids_of}
+use Rattle.sw_ring.specs.Ring.{is_among}
+use Rattle.sw_ring.proofs.Among.{Contains-cons, Contains-from_among}
+use Rattle.sw_message.specs.Message.{IsMember, is_primary}
 use Rattle.sw_message.specs.Transcript.{Gave, IsRun, Step, Told, given, opens}
 use Rattle.sw_message.specs.declared.message.Msg.{Msg}
 use Rattle.sw_message.specs.declared.message.Msg.TheVariants as message
 use Rattle.sw_message.specs.declared.reply.Reply.{Reply}
 use Rattle.sw_message.specs.declared.reply.Reply.TheVariants as reply
 use Rattle.sw_message.specs.declared.sent.Sent.{Sent}
-use Rattle.sw_quorum.specs.Places.{counted-among, device_once, handoffs_known, one_if, some-counted}
+use Rattle.sw_quorum.specs.Places.{counted-among, device_once, handoffs_apart, handoffs_known, one_if, some-counted}
 use Rattle.sw_quorum.specs.Transcripts.{closed, sums-keep}
-use Rattle.sw_gather.proofs.Lists.{first_or_later, here, none_in}
-use Rattle.sw_sync.specs.Causes.{AllAnswered, IsOfPlace, WasListed}
+use Rattle.sw_gather.proofs.Lists.{first_or_later, here, in_filter, none_in}
+use Rattle.sw_sync.specs.Answers.{AllAnswered, HandoffsAnswered, WasAsked, WasListed}
 use Rattle.sw_sync.specs.Parts.{Heard}
+use Rattle.sw_sync.specs.Sends.{MayAsk}
 use Rattle.sw_sync.specs.Sync.{Begun, IsBegun, IsMessage, IsNext, handoffs, heard_from, listing_in, listing_of, of_device, primaries}
 use Rattle.sw_sync.specs.declared.errand.Errand.{Errand}
 use Rattle.sw_sync.specs.declared.errand.Errand.TheVariants.{Ask}
@@ -34,7 +37,11 @@ IsQuestion begun sent = sent.msg ≡ message.Ask begun.place
 abbrev pub is_this : ℕ → ℕ → Bool
 is_this device other = other == device
 
--- While devices are asked, those that were, those that are due, and the rest are those of the place.
+abbrev pub IsHandoff : Begun → ℕ → Type 0
+IsHandoff begun device = is_primary begun.cluster device begun.place ≡ false
+
+-- While devices are asked, those that were, those that are due, and the rest are those of the place. Where each handoff has answered,
+-- primaries may be due.
 pub record Asking (begun : Begun) (past : List Step) (heard : Heard) (due : List Errand) (rest : List ℕ) : Type 0 where
   pub survey : Survey begun past heard
   pub questions : All (IsQuestion begun) (given past)
@@ -42,6 +49,7 @@ pub record Asking (begun : Begun) (past : List Step) (heard : Heard) (due : List
   pub due_is : due ≡ map Ask left
   pub counted : (device : ℕ) → count_by (to device) (given past) + count_by (is_this device) left + count_by (is_this device) rest
       ≡ count_by (is_this device) (primaries begun) + count_by (is_this device) (handoffs begun)
+  pub ordered : HandoffsAnswered begun past ⊎ All (IsHandoff begun) left
 
 -- nothing was handed out
 pub asking-begun : (begun : Begun) → Asking begun [] (record { lists = []; misses = [] }) (map Ask (handoffs begun)) (primaries begun)
@@ -51,7 +59,11 @@ asking-begun begun = record {
   left = handoffs begun;
   due_is = refl;
   counted = λ device. omega arith;
+  ordered = inr (handoffs_apart begun.cluster begun.place.part);
 }
+
+handoffs-later : (begun : Begun) (past : List Step) (step : Step) → HandoffsAnswered begun past → HandoffsAnswered begun (step ∷ past)
+handoffs-later begun past step are device member handoff = let was = are device member handoff in (was.0, told-later past step device (message.Ask begun.place) was.0 was.1)
 
 -- ---- a device is asked
 
@@ -81,6 +93,10 @@ module _ (begun : Begun) (past : List Step) (heard : Heard) (rest : List ℕ) (s
               sum_by-cons (λ (one : Sent). cond (to device one) 1 0) sent (given past),
               sum_by-cons (λ id. cond (is_this device id) 1 0) sent.device next.0,
             );
+        ordered = elim asking.ordered [
+          | inl answered ↦ inl (handoffs-later begun past (Gave sent) answered)
+          | inr left ↦ inr (All-rest (IsHandoff begun) sent.device next.0 asking.left next.1 left)
+        ];
       }
 
   -- and answers
@@ -92,25 +108,48 @@ module _ (begun : Begun) (past : List Step) (heard : Heard) (rest : List ℕ) (s
     left = asking.left;
     due_is = asking.due_is;
     counted = asking.counted;
+    ordered = elim asking.ordered [ inl answered ↦ inl (handoffs-later begun past (Told sent answer) answered) | inr left ↦ inr left ];
   }
 
 none-left : (left : List ℕ) → [] ≡ map Ask left → left ≡ []
 none-left [] is = refl
 none-left (device ∷ left) is = absurd (cc)
 
--- the primaries are asked once each handoff was
-pub asking-primaries : (begun : Begun) (past : List Step) (heard : Heard) → Asking begun past heard [] (primaries begun) → Asking begun past heard (map Ask (primaries begun)) []
-asking-primaries begun past heard asking = record {
-  survey = asking.survey;
-  questions = asking.questions;
-  left = primaries begun;
-  due_is = refl;
-  counted = λ device. omega (arith, asking.counted device, ap (count_by (is_this device)) (none-left asking.left asking.due_is));
-}
+-- a device of the cluster that is no primary is a handoff
+handoff-there : (begun : Begun) (device : ℕ) → IsMember begun.cluster device → IsHandoff begun device → Contains (handoffs begun) device
+handoff-there begun device member other =
+    in_filter (λ id. not (is_among (column_of begun.cluster begun.place.part) id)) (ids_of begun.cluster) device (Contains-from_among (ids_of begun.cluster) device member) (ap not other)
+
+module _ (begun : Begun) (past : List Step) (run : IsRun (IsNext begun) past) (none : opens past ≡ []) where
+  -- where nothing is open, each that was asked has answered or was given up
+  was-asked : All (IsQuestion begun) (given past) → (device : ℕ) → 0 < count_by (to device) (given past) → WasAsked begun past device
+  was-asked questions device some =
+      let f : Sent → ℕ = λ sent. cond (to device sent) 1 0 in
+      let one = some-counted (λ (sent : Sent). sent.device) device (closed past) (omega (arith, some, sums-keep (IsNext begun) (numbers begun) f past run, ap (sum_by f) none)) in
+      let told = closed-answered past one.0 one.1 in
+      (told.0, as-told past one.0 device (message.Ask begun.place) told.0 one.2 (told-each begun (IsQuestion begun) past one.0 told.0 run questions told.1) told.1)
+
+  -- the primaries are asked once each handoff was
+  pub asking-primaries : (heard : Heard) → Asking begun past heard [] (primaries begun) → Asking begun past heard (map Ask (primaries begun)) []
+  asking-primaries heard asking = record {
+    survey = asking.survey;
+    questions = asking.questions;
+    left = primaries begun;
+    due_is = refl;
+    counted = λ device. omega (arith, asking.counted device, ap (count_by (is_this device)) (none-left asking.left asking.due_is));
+    ordered = inl (λ device member other.
+        was-asked asking.questions device
+        (omega (
+          arith,
+          asking.counted device,
+          counted-among (is_this device) (handoffs begun) device (eq-eqb device device refl) (handoff-there begun device member other),
+          ap (count_by (is_this device)) (none-left asking.left asking.due_is),
+        )));
+  }
 
 -- ---- once all have answered
 
--- Each device of the place answered or was given up; what was heard lists a device once, and it is one of the cluster.
+-- Each device of the cluster answered or was given up; what was heard lists a device once, and it is one of the cluster.
 pub record Surveyed (begun : Begun) (past : List Step) (heard : Heard) : Type 0 where
   pub survey : Survey begun past heard
   pub answered : AllAnswered begun past
@@ -160,6 +199,13 @@ module _ (begun : Begun) (valid : IsBegun begun) where
         subst (IsMember begun.cluster) one.2 (All-contains (IsMember begun.cluster) (handoffs begun) one.0 (handoffs_known begun.cluster begun.place.part) one.1)
   ]
 
+  -- and each of the cluster is one of the place
+  place-device : (device : ℕ) → IsMember begun.cluster device → 0 < count_by (is_this device) (primaries begun) + count_by (is_this device) (handoffs begun)
+  place-device device member = elim (cases_Bool (is_primary begun.cluster device begun.place)) [
+    | inl primary ↦ omega (arith, counted-among (is_this device) (primaries begun) device (eq-eqb device device refl) (Contains-from_among (primaries begun) device primary))
+    | inr other ↦ omega (arith, counted-among (is_this device) (handoffs begun) device (eq-eqb device device refl) (handoff-there begun device member other))
+  ]
+
   -- one that is asked next is one of them
   pub asking-member : (past : List Step) (heard : Heard) (due later : List Errand) (rest : List ℕ) (sent : Sent) (stage : Stage) (errand : Errand) → due ≡ errand ∷ later → IsMessage begun stage errand sent.device sent.msg
       → Asking begun past heard due rest → IsMember begun.cluster sent.device × IsQuestion begun sent
@@ -170,6 +216,19 @@ module _ (begun : Begun) (valid : IsBegun begun) where
             (omega (arith, asking.counted sent.device, ap (count_by (is_this sent.device)) next.1, sum_by-cons (λ id. cond (is_this sent.device id) 1 0) sent.device next.0, here)),
         next.3,
       )
+
+  -- and may be asked
+  pub asking-may : (past : List Step) (heard : Heard) (due later : List Errand) (rest : List ℕ) (sent : Sent) (stage : Stage) (errand : Errand) → due ≡ errand ∷ later → IsMessage begun stage errand sent.device sent.msg
+      → Asking begun past heard due rest → MayAsk begun past sent.device
+  asking-may past heard due later rest sent stage errand first message asking =
+      let next = asked-next begun past heard rest sent stage errand asking.left later (sym asking.due_is ∙ first) message in
+      record {
+        member = (asking-member past heard due later rest sent stage errand first message asking).0;
+        handoffs_first = λ primary. elim asking.ordered [
+          | inl answered ↦ answered
+          | inr left ↦ absurd (true≢false (sym primary ∙ All-head (IsHandoff begun) sent.device next.0 (subst (All (IsHandoff begun)) next.1 left)))
+        ];
+      }
 
 module _ (begun : Begun) (valid : IsBegun begun) (past : List Step) (run : IsRun (IsNext begun) past) (heard : Heard) (none : opens past ≡ []) (asking : Asking begun past heard [] []) where
   -- each was asked as often as it is there, which is at most once
@@ -182,14 +241,9 @@ module _ (begun : Begun) (valid : IsBegun begun) (past : List Step) (run : IsRun
   one-at-most device = omega (arith, closed-counted device, device_once begun.cluster begun.place.part valid.rules (part_small begun valid) device)
 
   all-answered : AllAnswered begun past
-  all-answered device of =
-      let one = some-counted (λ (sent : Sent). sent.device) device (closed past) (omega (arith, closed-counted device, counted of)) in
-      let told = closed-answered past one.0 one.1 in
-      (told.0, as-told past one.0 device (message.Ask begun.place) told.0 one.2 (told-each begun (IsQuestion begun) past one.0 told.0 run asking.questions told.1) told.1)
-    where
-      counted : IsOfPlace begun device → 0 < count_by (is_this device) (primaries begun) + count_by (is_this device) (handoffs begun)
-      counted (inl handoff) = omega (arith, counted-among (is_this device) (handoffs begun) device (eq-eqb device device refl) handoff)
-      counted (inr primary) = omega (arith, counted-among (is_this device) (primaries begun) device (eq-eqb device device refl) primary)
+  all-answered device member =
+      was-asked begun past run none asking.questions device
+      (omega (arith, asking.counted device, place-device begun valid device member, ap (count_by (is_this device)) (none-left asking.left asking.due_is)))
 
   listed-once : (device : ℕ) (listing : ListingModel) → Contains heard.lists (device, listing) → listing_of heard.lists device ≡ Some listing
   listed-once device listing is =

@@ -1,9 +1,10 @@
 -- A tombstone goes to the primaries that list a smaller floor, or none.
-use Rattle.std.proofs.Common.{◌≡◌, inl, inr, ℕ, ◌==◌, Bool, true, false, Contains, List, [], ◌∷◌, ◌++◌, map, Option, refl, sym, ap, subst, ◌∙◌, arith}
+use Rattle.std.proofs.Common.{◌≡◌, inl, inr, ℕ, Bool, true, false, Contains, List, [], ◌∷◌, ◌++◌, map, Option, refl, sym, ap, subst, ◌∙◌, arith}
 use Rattle.std.specs.Prelude.{if◌then◌else◌}
 use Rattle.std.specs.List.{All, filter}
-use Rattle.std.proofs.lemmas.Bool.{cases_Bool, eq-eqb, eqb-true}
+use Rattle.std.proofs.lemmas.Bool.{cases_Bool}
 use Rattle.std.proofs.lemmas.List.Elements.{All-contains_itself, All-filter, All-head, All-map, All-nil, All-tail, All-weaker, filter_passes}
+use Rattle.sw_ring.proofs.Among.{Contains-from_among, among-from_Contains}
 use Rattle.sw_message.specs.Floors.{tombstone_floor}
 use Rattle.sw_message.specs.Transcript.{Gave, IsRun, Step, Told, given, opens}
 use Rattle.sw_message.specs.declared.message.Msg.{Msg}
@@ -13,16 +14,18 @@ use Rattle.sw_message.specs.declared.reply.Reply.{Reply}
 use Rattle.sw_message.specs.declared.sent.Sent.{Sent}
 use Rattle.sw_quorum.specs.Transcripts.{closed}
 use Rattle.sw_quorum.specs.Verdicts.{delete_verdict}
-use Rattle.sw_gather.proofs.Lists.{any_passes, from_filter, in_filter, in_map, some_passes}
-use Rattle.sw_sync.specs.Causes.{AreFailures, HasFailed, IsForbidden, IsMissedWrite, MayDelete, MissedAsk, WasBuried, WasTold, capped, count_told, is_marked}
+use Rattle.sw_gather.proofs.Lists.{from_filter, in_filter, in_map}
+use Rattle.sw_sync.specs.Answers.{MissedAsk, WasTold}
+use Rattle.sw_sync.specs.Causes.{AreFailures, HasFailed, IsForbidden, IsMissedWrite, WasBuried, capped, count_told, is_marked}
 use Rattle.sw_sync.specs.Parts.{Burial, Heard}
+use Rattle.sw_sync.specs.Sends.{MayDelete}
 use Rattle.sw_sync.specs.Sync.{Begun, IsMessage, IsNext, as_failure, buried, burial_of, failed_asks, is_of, listing_of, lists_below, primaries}
 use Rattle.sw_sync.specs.declared.errand.Errand.{Errand}
 use Rattle.sw_sync.specs.declared.errand.Errand.TheVariants.{Ask, Commit, Delete, Fetch, Store}
 use Rattle.sw_sync.specs.declared.stage.Stage.TheVariants.{Buries}
 use Rattle.sw_sync.proofs.Asking.{IsQuestion, Surveyed, surveyed-later}
 use Rattle.sw_sync.proofs.Errands.{Does, IsFor, does-begun, does-gave, does-over, does-told, sent-is}
-use Rattle.sw_sync.proofs.Failures.{counted-more, failures-gave, failures-told, judged-delete, marked-is}
+use Rattle.sw_sync.proofs.Failures.{IsOfPrimary, counted-more, failures-gave, failures-told, judged-delete, marked-is}
 use Rattle.sw_sync.proofs.Messages.{closed-each, told-each}
 use Rattle.sw_sync.proofs.Plans.{OwnFloor}
 use Rattle.sw_sync.proofs.Surveys.{no-question}
@@ -49,21 +52,16 @@ module _ (begun : Begun) (past : List Step) (run : IsRun (IsNext begun) past) (q
   -- the failures are the primaries' misses
   pub failures-begun : (heard : Heard) → Surveyed begun past heard → AreFailures begun past (failed_asks (primaries begun) heard.misses)
   failures-begun heard surveyed = record {
+    primaries = All-map (IsOfPrimary begun) as_failure (filter (is_of (primaries begun)) heard.misses) (filter_passes (is_of (primaries begun)) heard.misses);
     each = All-map (HasFailed begun past) as_failure (filter (is_of (primaries begun)) heard.misses)
-        (λ i d within. failed _ (All-filter (is_of (primaries begun)) (λ (one : ℕ × Miss). MissedAsk begun past one.0 one.1) heard.misses surveyed.survey.misses i d within)
-        (filter_passes (is_of (primaries begun)) heard.misses i d within));
+        (All-weaker (λ (one : ℕ × Miss). MissedAsk begun past one.0 one.1) (λ (one : ℕ × Miss). HasFailed begun past (as_failure one)) (λ one missed. inl missed) (filter (is_of (primaries begun)) heard.misses)
+        (All-filter (is_of (primaries begun)) (λ (one : ℕ × Miss). MissedAsk begun past one.0 one.1) heard.misses surveyed.survey.misses));
     asks = λ device how primary missed.
         in_map as_failure (filter (is_of (primaries begun)) heard.misses) (device, how)
-        (in_filter (is_of (primaries begun)) heard.misses (device, how) (surveyed.survey.all_misses device how missed)
-        (any_passes (λ id. id == device) (primaries begun) device primary (eq-eqb device device refl)));
+        (in_filter (is_of (primaries begun)) heard.misses (device, how) (surveyed.survey.all_misses device how missed) primary);
     misses = λ device msg answer how was missed. absurd (subst (λ (one : Msg). IsMissedWrite one answer how) (was-asked device msg answer was) missed);
     forbidden = λ device msg floor was forbids. absurd (subst (λ (one : Msg). IsForbidden one floor) (was-asked device msg _ was) forbids);
   }
-    where
-      failed : (one : ℕ × Miss) → MissedAsk begun past one.0 one.1 → is_of (primaries begun) one ≡ true → HasFailed begun past (as_failure one)
-      failed one missed primary =
-          let device = some_passes (λ id. id == one.0) (primaries begun) primary in
-          (subst (Contains (primaries begun)) (eqb-true device.0 one.0 device.2) device.1, inl missed)
 
 -- ---- a burial
 
@@ -135,7 +133,7 @@ module _ (begun : Begun) (past : List Step) (burial : Burial) (due : List Errand
     does = does-told begun burial.stamp (ToBury begun burying.heard burial.stamp) (ToBury begun burying.heard burial.stamp) past due burying.does (λ one is. is) sent answer [] (All-nil (ToBury begun burying.heard burial.stamp)) (λ one is. inl is);
     marked = counted-more burial.tombstones (count_told is_marked past) (delete_verdict burial.stamp answer) (is_marked sent.msg answer) burying.marked (marked-is begun.place burial.stamp answer);
     failures = failures-told begun past ticket device (message.Delete begun.place burial.stamp) answer burial.failed burying.failures (λ same. cc) (delete_verdict burial.stamp answer)
-        (judged-delete begun.place burial.stamp answer) primary;
+        (judged-delete begun.place burial.stamp answer) (among-from_Contains (primaries begun) device primary);
   }
     where
       sent : Sent
@@ -145,7 +143,14 @@ module _ (begun : Begun) (past : List Step) (burial : Burial) (due : List Errand
   pub may-delete : (device : ℕ) → ToBury begun burying.heard burial.stamp (Delete device) → MayDelete begun past device burial.stamp
   may-delete device is =
       let below = lists-below begun past burying.heard burying.surveyed (tombstone_floor burial.stamp) device is.1 in
-      record { own = own-floor begun past burying.heard burying.surveyed (tombstone_floor burial.stamp) burying.own; primary = is.0; listing = below.0; listed = below.1; below = below.2 }
+      record {
+        answered = burying.surveyed.answered;
+        own = own-floor begun past burying.heard burying.surveyed (tombstone_floor burial.stamp) burying.own;
+        primary = among-from_Contains (primaries begun) device is.0;
+        listing = below.0;
+        listed = below.1;
+        below = below.2;
+      }
 
 -- once nothing is due and nothing is open
 pub was-buried : (begun : Begun) (past : List Step) (burial : Burial) → IsRun (IsNext begun) past → opens past ≡ [] → Burying begun past burial [] → WasBuried begun past 0 0 burial.tombstones burial.failed
@@ -157,7 +162,7 @@ was-buried begun past burial run none burying =
       own = own;
       each = λ device listing primary listed. elim (cases_Bool (lists_below floor (listing_of burying.heard.lists device))) [
         | inl below ↦
-            let sent = does-over begun burial.stamp (ToBury begun burying.heard burial.stamp) past run none burying.does (Delete device) (primary, below) in
+            let sent = does-over begun burial.stamp (ToBury begun burying.heard burial.stamp) past run none burying.does (Delete device) (Contains-from_among (primaries begun) device primary, below) in
             inr (sent.1.0, (sent.2.0, subst (λ (one : Sent). Contains past (Told one sent.1.0)) sent.2.2 sent.1.1))
         | inr not_below ↦ inl (lists-same begun past burying.heard burying.surveyed floor device listing own listed not_below)
       ];

@@ -6,6 +6,7 @@ use Rattle.std.proofs.lemmas.List.Elements.{All-append, All-cons, All-nil, All-w
 use Rattle.sw_hashpath.specs.Place.{PlaceModel}
 use Rattle.sw_hashdir.specs.declared.floor.Floor.{Floor}
 use Rattle.sw_message.specs.Floors.{refuses, stands_above}
+use Rattle.sw_message.specs.Message.{is_primary}
 use Rattle.sw_message.specs.Miss.{miss_of}
 use Rattle.sw_message.specs.Transcript.{Gave, Step, Told}
 use Rattle.sw_message.specs.declared.message.Msg.{Msg}
@@ -21,12 +22,13 @@ use Rattle.sw_quorum.specs.Verdicts.{commit_verdict, delete_verdict, store_verdi
 use Rattle.sw_quorum.specs.declared.verdict.Verdict.{Verdict}
 use Rattle.sw_quorum.specs.declared.verdict.Verdict.TheVariants as verdict
 use Rattle.sw_gather.proofs.Lists.{here}
-use Rattle.sw_sync.specs.Causes.{AreFailures, HasFailed, IsForbidden, IsMissedWrite, MissedAsk, WasTold, capped, is_committed, is_marked}
-use Rattle.sw_sync.specs.Sync.{Begun, counted, failed_by, primaries}
+use Rattle.sw_sync.specs.Answers.{MissedAsk, WasTold}
+use Rattle.sw_sync.specs.Causes.{AreFailures, HasFailed, IsForbidden, IsMissedWrite, capped, failed_device, is_committed, is_marked}
+use Rattle.sw_sync.specs.Sync.{Begun, counted, failed_by}
 use Rattle.sw_sync.specs.declared.sync_end.Failure.{Failure}
 use Rattle.sw_sync.specs.declared.sync_end.Failure.TheVariants.{Missed, Superseded}
 use Rattle.sw_sync.proofs.Messages.{told-cases, told-gave, told-later}
-use Rattle.sw_sync.proofs.Surveys.{missed-later}
+use Rattle.sw_sync.proofs.Surveys.{missed-before, missed-later, no-question}
 
 -- ---- what an answer to a write means
 
@@ -115,17 +117,21 @@ stored-done stamp (Some other) is = absurd (cc)
 
 -- ---- failures
 
+abbrev pub IsOfPrimary : Begun → Failure → Type 0
+IsOfPrimary begun one = is_primary begun.cluster (failed_device one) begun.place ≡ true
+
 module _ (begun : Begun) (past : List Step) (step : Step) where
   failed-later : (failure : Failure) → HasFailed begun past failure → HasFailed begun (step ∷ past) failure
-  failed-later (Missed device how) (primary, inl ask) = (primary, inl (missed-later begun past step device how ask))
-  failed-later (Missed device how) (primary, inr (msg, answer, told, is)) = (primary, inr (msg, answer, told-later past step device msg answer told, is))
-  failed-later (Superseded device floor) (primary, msg, told, is) = (primary, msg, told-later past step device msg (Some (reply.Superseded floor)) told, is)
+  failed-later (Missed device how) (inl ask) = inl (missed-later begun past step device how ask)
+  failed-later (Missed device how) (inr (msg, answer, told, is)) = inr (msg, answer, told-later past step device msg answer told, is)
+  failed-later (Superseded device floor) (msg, told, is) = (msg, told-later past step device msg (Some (reply.Superseded floor)) told, is)
 
 -- a message is handed out
 pub failures-gave : (begun : Begun) (past : List Step) (sent : Sent) (failed : List Failure) → AreFailures begun past failed → AreFailures begun (Gave sent ∷ past) failed
 failures-gave begun past sent failed are = record {
+  primaries = are.primaries;
   each = All-weaker (HasFailed begun past) (HasFailed begun (Gave sent ∷ past)) (failed-later begun past (Gave sent)) failed are.each;
-  asks = λ device how primary is. are.asks device how primary (record { answer = is.answer; told = told-gave past sent device (message.Ask begun.place) is.answer is.told; missed = is.missed });
+  asks = λ device how primary is. are.asks device how primary (missed-before begun past (Gave sent) (λ device answer ticket same. cc) device how is);
   misses = λ device msg answer how told is. are.misses device msg answer how (told-gave past sent device msg answer told) is;
   forbidden = λ device msg floor told is. are.forbidden device msg floor (told-gave past sent device msg (Some (reply.Superseded floor)) told) is;
 }
@@ -139,16 +145,13 @@ module _ (begun : Begun) (past : List Step) (ticket device : ℕ) (msg : Msg) (a
   after = Told sent answer ∷ past
 
   asks-before : (primary : ℕ) (how : Miss) → MissedAsk begun after primary how → MissedAsk begun past primary how
-  asks-before primary how is = elim (told-cases past sent answer primary (message.Ask begun.place) is.answer is.told) [
-    | inl this ↦ absurd (other this.1)
-    | inr before ↦ record { answer = is.answer; told = before; missed = is.missed }
-  ]
+  asks-before = missed-before begun past (Told sent answer) (no-question begun sent answer other)
 
   each-later : All (HasFailed begun after) failed
   each-later = All-weaker (HasFailed begun past) (HasFailed begun after) (failed-later begun past (Told sent answer)) failed are.each
 
   -- to a write
-  module _ (means : Verdict) (judged : IsJudged msg answer means) (primary : Contains (primaries begun) device) where
+  module _ (means : Verdict) (judged : IsJudged msg answer means) (primary : is_primary begun.cluster device begun.place ≡ true) where
     told-now : WasTold after device msg answer
     told-now = (ticket, here (Told sent answer) past)
 
@@ -156,12 +159,18 @@ module _ (begun : Begun) (past : List Step) (ticket device : ℕ) (msg : Msg) (a
     failed-now verdict.Done is = All-nil (HasFailed begun after)
     failed-now (verdict.Forbidden floor) is =
         let was = judged.was_forbidden floor is in
-        All-cons (HasFailed begun after) (Superseded device floor) [] (primary, msg, subst (WasTold after device msg) was.0 told-now, was.1) (All-nil (HasFailed begun after))
+        All-cons (HasFailed begun after) (Superseded device floor) [] (msg, subst (WasTold after device msg) was.0 told-now, was.1) (All-nil (HasFailed begun after))
     failed-now (verdict.Missed how) is =
-        All-cons (HasFailed begun after) (Missed device how) [] (primary, inr (msg, answer, told-now, judged.was_missed how is)) (All-nil (HasFailed begun after))
+        All-cons (HasFailed begun after) (Missed device how) [] (inr (msg, answer, told-now, judged.was_missed how is)) (All-nil (HasFailed begun after))
+
+    of-primary : (how : Verdict) → All (IsOfPrimary begun) (failed_by device how)
+    of-primary verdict.Done = All-nil (IsOfPrimary begun)
+    of-primary (verdict.Forbidden floor) = All-cons (IsOfPrimary begun) (Superseded device floor) [] primary (All-nil (IsOfPrimary begun))
+    of-primary (verdict.Missed how) = All-cons (IsOfPrimary begun) (Missed device how) [] primary (All-nil (IsOfPrimary begun))
 
     pub failures-told : AreFailures begun after (failed ++ failed_by device means)
     failures-told = record {
+      primaries = All-append (IsOfPrimary begun) failed (failed_by device means) are.primaries (of-primary means);
       each = All-append (HasFailed begun after) failed (failed_by device means) each-later (failed-now means refl);
       asks = λ one how of is. Contains-append_left failed (failed_by device means) (Missed one how) (are.asks one how of (asks-before one how is));
       misses = λ one of told how was is. elim (told-cases past sent answer one of told was) [
@@ -185,6 +194,7 @@ module _ (begun : Begun) (past : List Step) (ticket device : ℕ) (msg : Msg) (a
   -- to a fetch
   pub failures-fetched : ((how : Miss) → IsMissedWrite msg answer how → ⊥) → ((floor : Floor) → IsForbidden msg floor → ⊥) → AreFailures begun after failed
   failures-fetched no_miss no_floor = record {
+    primaries = are.primaries;
     each = each-later;
     asks = λ one how of is. are.asks one how of (asks-before one how is);
     misses = λ one of told how was is. elim (told-cases past sent answer one of told was) [

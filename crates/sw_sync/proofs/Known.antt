@@ -170,7 +170,7 @@ module _ (begun : Begun) (valid : IsBegun begun) (past : List Step) (run : IsRun
       (λ best newer. inl (heard, surveyed_now, inr (inr (best, newer, refl))))
 
   advanced-knows : (stage : Stage) → Knows begun past stage [] → KnowsState begun past (advanced begun stage)
-  advanced-knows (Handoffs heard) knows = asking-primaries begun past heard knows
+  advanced-knows (Handoffs heard) knows = asking-primaries begun past run none heard knows
   advanced-knows (Primaries heard) knows = planned-knows heard knows
   advanced-knows (Buries burial) knows = inr (inl (burial, knows, refl))
   advanced-knows (Repairs repair) knows = inr (inr (repair, knows, refl))

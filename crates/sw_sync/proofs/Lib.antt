@@ -11,6 +11,7 @@ pub mod Gathers
 pub mod Handed
 pub mod Hearings
 pub mod Known
+pub mod Listed
 pub mod Machine
 pub mod Messages
 pub mod Plans

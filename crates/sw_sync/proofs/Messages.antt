@@ -14,7 +14,7 @@ use Rattle.sw_message.specs.declared.sent.Sent.{Sent}
 use Rattle.sw_quorum.specs.Places.{counted-among, one_if}
 use Rattle.sw_quorum.specs.Transcripts.{HasOther, Numbers, closed, found, has_ticket, numbered}
 use Rattle.sw_gather.proofs.Lists.{first_or_later, here, in_filter, none_in}
-use Rattle.sw_sync.specs.Causes.{WasTold}
+use Rattle.sw_sync.specs.Answers.{WasTold}
 use Rattle.sw_sync.specs.Sync.{Begun, IsNext}
 
 pub numbers : (begun : Begun) → Numbers (IsNext begun)

@@ -1,14 +1,16 @@
 -- Entries are made durable at primaries, and rebuilt at those that lack theirs.
-use Rattle.std.proofs.Common.{◌≡◌, ◌⊎◌, inl, inr, ℕ, ◌≤◌, ◌==◌, ◌||◌, Bool, true, false, not, cond, Contains, List, [], ◌∷◌, ◌++◌, length, map, take, Option, Some, None, refl, sym, ap, subst, ◌∙◌, arith}
+use Rattle.std.proofs.Common.{◌≡◌, ◌⊎◌, inl, inr, ℕ, ◌≤◌, ◌==◌, ◌||◌, Bool, true, false, not, cond, Contains, List, [], ◌∷◌, ◌++◌, append-nil, length, map, take, Option, Some, None, refl, sym, ap, subst, ◌∙◌, arith}
 use Rattle.std.specs.Prelude.{if◌then◌else◌, min, nat_lt, slice_get}
 use Rattle.std.specs.List.{All, count_by, filter}
-use Rattle.std.proofs.lemmas.Bool.{eq-eqb, eqb-true, le-ltb}
+use Rattle.std.proofs.lemmas.Bool.{eq-eqb, eqb-true, le-ltb, ltb-false, or_parts}
 use Rattle.std.proofs.lemmas.List.{length-take-le}
 use Rattle.std.proofs.lemmas.List.Elements.{All-append, All-cons, All-contains_itself, All-head, All-tail, All-map, All-nil, All-take, All-weaker, Contains-append_left, Contains-append_right, Contains-push, Contains-push_cases}
 use Rattle.std.proofs.lemmas.List.Sums.{sum_by-append, sum_by-cons}
 use Rattle.std.proofs.lemmas.Option.{get_or_from_slice_get, slice_get_within}
 use Rattle.sw_archive.specs.Archive.{ArchiveModel}
+use Rattle.sw_ring.proofs.Among.{among-from_Contains}
 use Rattle.sw_message.specs.Floors.{durable_at}
+use Rattle.sw_message.specs.Message.{is_primary}
 use Rattle.sw_message.specs.Transcript.{Gave, IsRun, Step, Told, given, opens}
 use Rattle.sw_message.specs.declared.message.Msg.{Msg}
 use Rattle.sw_message.specs.declared.message.Msg.TheVariants as message
@@ -23,9 +25,10 @@ use Rattle.sw_quorum.specs.Verdicts.{commit_verdict, store_verdict}
 use Rattle.sw_quorum.specs.declared.verdict.Verdict.{Verdict}
 use Rattle.sw_quorum.specs.declared.verdict.Verdict.TheVariants as verdict
 use Rattle.sw_gather.specs.Choices.{choices_in, firsts}
-use Rattle.sw_gather.proofs.Lists.{from_filter, here, in_filter, in_map}
+use Rattle.sw_gather.proofs.Lists.{from_filter, here, in_filter, in_map, none_in}
 use Rattle.sw_gather.proofs.Sources.{firsts-kept}
-use Rattle.sw_sync.specs.Causes.{AreFailures, IsMissOf, WasBrought, MissedAsk, WasTold, capped, count_told, is_committed}
+use Rattle.sw_sync.specs.Answers.{MissedFetch, WasBrought, WasTold}
+use Rattle.sw_sync.specs.Causes.{AreFailures, AreMisses, capped, count_told, is_committed}
 use Rattle.sw_sync.specs.Parts.{Heard, Repair}
 use Rattle.sw_sync.specs.Sync.{Begun, Brings, IsFetched, IsMessage, IsNext, Loses, brought, committed_as, counted, due_after, failed_by, due_brought, due_retried, first_tried, free_in, is_empty, is_lacking, lost, primaries, repair_with, retried, shows_none, shows_plain, stored, total}
 use Rattle.sw_sync.specs.declared.errand.Errand.{Errand}
@@ -84,6 +87,9 @@ primary-there begun target there = at-number (primaries begun) target.index targ
   where
     at-number : (devices : List ℕ) (n device : ℕ) → slice_get devices n ≡ Some device → Contains devices device
     at-number devices n device at = (n, slice_get_within devices n device at, get_or_from_slice_get devices n device device at)
+
+pub device-primary : (begun : Begun) (target : Target) → Contains (targets_from 0 (primaries begun)) target → is_primary begun.cluster target.device begun.place ≡ true
+device-primary begun target there = among-from_Contains (primaries begun) target.device (primary-there begun target there)
 
 -- ---- what was stored stays stored
 
@@ -173,7 +179,7 @@ module _ (begun : Begun) (past : List Step) (repair : Repair) (due : List Errand
 
       commit-failures : AreFailures begun (now asked answer) (repair.failed ++ failed_by target.device verdict_is)
       commit-failures = failures-told begun past ticket target.device asked.msg answer repair.failed repairing.failures (λ same. cc) verdict_is (judged-commit begun.place repair.stamp target.index answer)
-          (primary-there begun target (commit-target begun past repair due repairing target todo))
+          (device-primary begun target (commit-target begun past repair due repairing target todo))
 
       pub repairing-committed : (b : Bool) → is_lacking repair target.index ≡ b → Repairing begun (now asked answer) (committed_as b repair target.device verdict_is) (due ++ [])
       repairing-committed true is = record {
@@ -259,7 +265,7 @@ module _ (begun : Begun) (past : List Step) (repair : Repair) (due : List Errand
         commits = repairing.commits ∙ ap {A = ℕ} capped (omega arith);
         rebuilt = repairing.rebuilt ∙ ap {A = ℕ} capped (omega arith);
         failures = failures-told begun past ticket target.device put.msg answer repair.failed repairing.failures (λ same. cc) means (judged-store begun.place repair.stamp target.index bytes answer)
-            (primary-there begun target (lacking-target begun past repair due repairing target there).0);
+            (device-primary begun target (lacking-target begun past repair due repairing target there).0);
         gathers = gathers-other begun past repair due repairing.gathers ticket target.device put.msg answer (λ same. cc) (due_after target means) repair.commits repair.rebuilt (repair.failed ++ failed_by target.device means) refl
             (no-fetches means);
       }
@@ -431,6 +437,16 @@ module _ (k : ℕ) (lacking choices : List Target) where
       ∙ ap (λ b. length (if b then [] else take k (firsts choices))) (le-ltb (length (firsts choices)) k many)
       ∙ length-take-le k (firsts choices) many
 
+  first-worth : (source : Target) → Contains (first_tried k lacking (firsts choices)) source → (is_empty lacking ≡ false) × (k ≤ min (length (firsts choices)) k)
+  first-worth source = by_test (is_empty lacking || nat_lt (length (firsts choices)) k) refl
+    where
+      by_test : (b : Bool) → (is_empty lacking || nat_lt (length (firsts choices)) k) ≡ b → Contains (if b then [] else take k (firsts choices)) source → (is_empty lacking ≡ false) × (k ≤ min (length (firsts choices)) k)
+      by_test true is there = absurd (none_in source there)
+      by_test false is there =
+          let both = or_parts (is_empty lacking) (nat_lt (length (firsts choices)) k) is in
+          let many = ltb-false (length (firsts choices)) k both.1 in
+          (both.0, omega (arith, many))
+
 module _ (begun : Begun) (past : List Step) (run : IsRun (IsNext begun) past) (none : opens past ≡ []) (questions : All (IsQuestion begun) (given past)) (heard : Heard) (surveyed : Surveyed begun past heard) (stamp : ℕ) where
   abbrev policy_k : ℕ
   policy_k = begun.cluster.policy.k
@@ -447,10 +463,20 @@ module _ (begun : Begun) (past : List Step) (run : IsRun (IsNext begun) past) (n
   nothing-told : (device : ℕ) (msg : Msg) (answer : Option Reply) → (msg ≡ message.Ask begun.place → ⊥) → WasTold past device msg answer → ⊥
   nothing-told device msg answer other was = other (was-asked begun past run questions device msg answer was)
 
+  misses-begun : AreMisses begun past stamp [] heard.misses
+  misses-begun = record {
+    asked = heard.misses;
+    misses_are = sym (append-nil heard.misses);
+    asked_are = surveyed.survey.misses;
+    all_asked = surveyed.survey.all_misses;
+    lost_are = All-nil (λ (one : Target × Miss). MissedFetch begun past stamp one.0 one.1);
+  }
+
   gathers-begun : Gathers begun past planned planned_due
   gathers-begun = record {
     brought = record { each = All-nil (WasBrought begun past stamp); distinct = λ i j d less within. absurd (omega (arith, within)) };
     few = omega arith;
+    missed = [];
     spent = λ source answer was. absurd (nothing-told source.device (message.Fetch begun.place stamp source.index) answer (λ same. cc) was);
     tries = omega (
       arith,
@@ -463,8 +489,8 @@ module _ (begun : Begun) (past : List Step) (run : IsRun (IsNext begun) past) (n
     chosen = first-chosen policy_k planned.lacking planned.choices;
     lost_tried = All-nil (Contains planned.tried);
     free = λ lacking listed. inr (omega (arith, first-count policy_k planned.lacking planned.choices lacking listed));
-    misses = All-weaker (λ (one : ℕ × Miss). MissedAsk begun past one.0 one.1) (IsMissOf begun past stamp) (λ one is. inl is) heard.misses surveyed.survey.misses;
-    asks = surveyed.survey.all_misses;
+    worth = first-worth policy_k planned.lacking planned.choices;
+    misses = misses-begun;
   }
 
   abbrev Planned : Errand → Type 0

@@ -1,5 +1,5 @@
 -- What devices show, in the words of the causes.
-use Rattle.std.proofs.Common.{◌≡◌, ◌⊎◌, inl, inr, ℕ, zero, suc, ◌+◌, ◌==◌, ◌&&◌, Bool, true, false, not, Contains, List, [], ◌∷◌, Option, Some, None, refl, sym, ap, subst, ◌∙◌, arith}
+use Rattle.std.proofs.Common.{◌≡◌, inl, inr, ℕ, zero, suc, ◌+◌, ◌==◌, ◌&&◌, Bool, true, false, not, Contains, List, [], ◌∷◌, Option, Some, None, refl, sym, ap, subst, ◌∙◌, arith}
 use Rattle.std.specs.Prelude.{slice_get}
 use Rattle.std.specs.List.{flat_map, list_any}
 use Rattle.std.proofs.lemmas.Bool.{and_from, and_parts, cases_Bool, eq-eqb, eqb-true, not-true, true≢false}
@@ -17,7 +17,8 @@ use Rattle.sw_message.specs.declared.target.Target.{Target}
 use Rattle.sw_message.proofs.Highest.{above, above_lower, is_highest, neither_above, not_above}
 use Rattle.sw_quorum.specs.Targets.{targets_from}
 use Rattle.sw_gather.proofs.Lists.{any_passes, first_or_later, from_flat, here, in_flat, none_in, some_passes}
-use Rattle.sw_sync.specs.Causes.{HasFloor, IsNewer, IsOwnFloor, ListsNone, ListsPlain, WasListed}
+use Rattle.sw_sync.specs.Answers.{HasFloor, IsOwnFloor, ListsNone, ListsPlain, WasListed}
+use Rattle.sw_sync.specs.Causes.{IsNewer}
 use Rattle.sw_sync.specs.Parts.{Heard}
 use Rattle.sw_sync.specs.Sync.{Begun, floor_of, greatest_of, has_none, has_plain, is_durable_entry, is_entry, is_over, listing_of, lists_below, primaries, shows_none, shows_plain}
 use Rattle.sw_sync.proofs.Asking.{Surveyed, listing-in}
@@ -124,14 +125,10 @@ module _ (stamp : ℕ) (target : Target) (entries : List Entry) where
   pub none-shown : ((durable : Bool) → Contains entries (entry durable) → ⊥) → not (list_any (is_entry stamp target) entries) ≡ true
   none-shown none = elim (cases_Bool (list_any (is_entry stamp target) entries)) [ inl some ↦ absurd (let one = some-entry some in none one.0 one.1) | inr nowhere ↦ ap not nowhere ]
 
-  -- an entry is there durable, or plain, or not at all
-  pub three-ways : Contains entries (entry true) ⊎ (((list_any (is_entry stamp target) entries && not (list_any (is_durable_entry stamp target) entries)) ≡ true) ⊎ (not (list_any (is_entry stamp target) entries) ≡ true))
-  three-ways = elim (cases_Bool (list_any (is_durable_entry stamp target) entries)) [
-    | inl durable ↦ inl (durable-entry durable)
-    | inr plain ↦ elim (cases_Bool (list_any (is_entry stamp target) entries)) [
-      | inl some ↦ inr (inl (and_from (list_any (is_entry stamp target) entries) (not (list_any (is_durable_entry stamp target) entries)) some (ap not plain)))
-      | inr none ↦ inr (inr (ap not none))
-    ]
+  pub plain-shown : Contains entries (entry false) → (Contains entries (entry true) → ⊥) → (list_any (is_entry stamp target) entries && not (list_any (is_durable_entry stamp target) entries)) ≡ true
+  plain-shown there never = elim (cases_Bool (list_any (is_durable_entry stamp target) entries)) [
+    | inl durable ↦ absurd (never (durable-entry durable))
+    | inr plain ↦ and_from (list_any (is_entry stamp target) entries) (not (list_any (is_durable_entry stamp target) entries)) (any-entry false there) (ap not plain)
   ]
 
 -- ---- what was listed
@@ -219,13 +216,5 @@ module _ (begun : Begun) (past : List Step) (heard : Heard) (is : Surveyed begun
     pub shows-none : ListsNone begun past stamp target → shows_none stamp heard.lists target ≡ true
     shows-none lists = ap (has_none stamp target) (is-found target.device lists.listing lists.listed) ∙ none-shown stamp target lists.listing.entries lists.none
 
-    -- a primary that listed has the entry durable, or plain, or not at all
-    pub shows-one : (listing : ListingModel) → WasListed begun past target.device listing
-        → Contains listing.entries (record { stamp = stamp; index = target.index; durable = true }) ⊎ ((shows_plain stamp heard.lists target ≡ true) ⊎ (shows_none stamp heard.lists target ≡ true))
-    shows-one listing was =
-        let found = is-found target.device listing was in
-        elim (three-ways stamp target listing.entries) [
-          | inl durable ↦ inl durable
-          | inr (inl plain) ↦ inr (inl (ap (has_plain stamp target) found ∙ plain))
-          | inr (inr none) ↦ inr (inr (ap (has_none stamp target) found ∙ none))
-        ]
+    pub shows-plain : ListsPlain begun past stamp target → shows_plain stamp heard.lists target ≡ true
+    shows-plain lists = ap (has_plain stamp target) (is-found target.device lists.listing lists.listed) ∙ plain-shown stamp target lists.listing.entries lists.plain lists.not_durable

@@ -1,6 +1,5 @@
 -- What a sync may hand out, by what was answered before.
-use Rattle.std.specs.Prelude.{◌≡◌, ◌⊎◌, ℕ, ◌≤◌, Bool, true, List, Contains, length, Some}
-use Rattle.sw_hashpath.specs.Place.{PlaceModel}
+use Rattle.std.specs.Prelude.{◌≡◌, ◌⊎◌, ℕ, ◌≤◌, true, List, Contains, length, Some}
 use Rattle.sw_hashdir.specs.Directory.{IsAbove}
 use Rattle.sw_hashdir.specs.Listing.{ListingModel}
 use Rattle.sw_hashdir.specs.declared.floor.Floor.{Floor}
