@@ -1,8 +1,9 @@
 -- What primaries did not do, by their answers, and how often something was done.
-use Rattle.std.proofs.Common.{◌≡◌, inl, inr, ℕ, ◌+◌, ◌-◌, ◌^◌, Bool, true, false, Contains, List, [], ◌∷◌, ◌++◌, Option, Some, None, refl, sym, ap, subst, ◌∙◌, arith}
+use Rattle.std.proofs.Common.{◌≡◌, ◌≢◌, ◌⊎◌, inl, inr, ℕ, ◌+◌, ◌-◌, ◌^◌, Bool, true, false, Contains, List, [], ◌∷◌, ◌++◌, append-nil, Option, Some, None, refl, sym, ap, subst, ◌∙◌, arith}
 use Rattle.std.specs.Prelude.{if◌then◌else◌, min}
-use Rattle.std.specs.List.{All}
+use Rattle.std.specs.List.{All, AllPairs}
 use Rattle.std.proofs.lemmas.List.Elements.{All-append, All-cons, All-nil, All-weaker, Contains-append_left, Contains-append_right}
+use Rattle.std.proofs.lemmas.List.Quantifiers.{all_pairs_push}
 use Rattle.sw_hashpath.specs.Place.{PlaceModel}
 use Rattle.sw_hashdir.specs.declared.floor.Floor.{Floor}
 use Rattle.sw_message.specs.Floors.{refuses, stands_above}
@@ -120,6 +121,36 @@ stored-done stamp (Some other) is = absurd (cc)
 abbrev pub IsOfPrimary : Begun → Failure → Type 0
 IsOfPrimary begun one = is_primary begun.cluster (failed_device one) begun.place ≡ true
 
+abbrev pub AreApart : Failure → Failure → Type 0
+AreApart one other = failed_device one ≢ failed_device other
+
+-- a device did not do what it was told
+abbrev pub HasRefused : Msg → Option Reply → Type 0
+HasRefused msg answer = ((how : Miss) × IsMissedWrite msg answer how) ⊎ ((floor : Floor) × (answer ≡ Some (reply.Superseded floor)) × IsForbidden msg floor)
+
+pub asks-refused : (place : PlaceModel) (answer : Option Reply) → HasRefused (message.Ask place) answer → ⊥
+asks-refused place answer (inl missed) = missed.1
+asks-refused place answer (inr forbidden) = forbidden.2
+
+pub fetch-refused : (place : PlaceModel) (stamp index : ℕ) (answer : Option Reply) → HasRefused (message.Fetch place stamp index) answer → ⊥
+fetch-refused place stamp index answer (inl missed) = missed.1
+fetch-refused place stamp index answer (inr forbidden) = forbidden.2
+
+pub synced-refused : (place : PlaceModel) (stamp index : ℕ) (bytes : List ℕ) → HasRefused (message.PutFrag place stamp index bytes) (Some reply.Synced) → ⊥
+synced-refused place stamp index bytes (inl missed) = missed.1
+synced-refused place stamp index bytes (inr forbidden) = let same = forbidden.1 in cc
+
+-- a device that answered as it was asked, and refused nothing, is none of those that failed
+pub none-failed : (begun : Begun) (past : List Step) (device : ℕ) → ((how : Miss) → MissedAsk begun past device how → ⊥) → ((msg : Msg) (answer : Option Reply) → WasTold past device msg answer → HasRefused msg answer → ⊥)
+    → (failed : List Failure) → All (HasFailed begun past) failed → All (λ one. failed_device one ≢ device) failed
+none-failed begun past device asked refused failed each = All-weaker (HasFailed begun past) (λ one. failed_device one ≢ device) differs failed each
+  where
+    differs : (one : Failure) → HasFailed begun past one → failed_device one ≢ device
+    differs (Missed other how) (inl missed) same = asked how (subst (λ n. MissedAsk begun past n how) same missed)
+    differs (Missed other how) (inr (msg, answer, told, missed)) same = refused msg answer (subst (λ n. WasTold past n msg answer) same told) (inl (how, missed))
+    differs (Superseded other floor) (msg, told, forbidden) same =
+        refused msg (Some (reply.Superseded floor)) (subst (λ n. WasTold past n msg (Some (reply.Superseded floor))) same told) (inr (floor, refl, forbidden))
+
 module _ (begun : Begun) (past : List Step) (step : Step) where
   failed-later : (failure : Failure) → HasFailed begun past failure → HasFailed begun (step ∷ past) failure
   failed-later (Missed device how) (inl ask) = inl (missed-later begun past step device how ask)
@@ -131,6 +162,7 @@ pub failures-gave : (begun : Begun) (past : List Step) (sent : Sent) (failed : L
 failures-gave begun past sent failed are = record {
   primaries = are.primaries;
   each = All-weaker (HasFailed begun past) (HasFailed begun (Gave sent ∷ past)) (failed-later begun past (Gave sent)) failed are.each;
+  once = are.once;
   asks = λ device how primary is. are.asks device how primary (missed-before begun past (Gave sent) (λ device answer ticket same. cc) device how is);
   misses = λ device msg answer how told is. are.misses device msg answer how (told-gave past sent device msg answer told) is;
   forbidden = λ device msg floor told is. are.forbidden device msg floor (told-gave past sent device msg (Some (reply.Superseded floor)) told) is;
@@ -151,7 +183,7 @@ module _ (begun : Begun) (past : List Step) (ticket device : ℕ) (msg : Msg) (a
   each-later = All-weaker (HasFailed begun past) (HasFailed begun after) (failed-later begun past (Told sent answer)) failed are.each
 
   -- to a write
-  module _ (means : Verdict) (judged : IsJudged msg answer means) (primary : is_primary begun.cluster device begun.place ≡ true) where
+  module _ (means : Verdict) (judged : IsJudged msg answer means) (primary : is_primary begun.cluster device begun.place ≡ true) (new : All (λ one. failed_device one ≢ device) failed) where
     told-now : WasTold after device msg answer
     told-now = (ticket, here (Told sent answer) past)
 
@@ -168,10 +200,16 @@ module _ (begun : Begun) (past : List Step) (ticket device : ℕ) (msg : Msg) (a
     of-primary (verdict.Forbidden floor) = All-cons (IsOfPrimary begun) (Superseded device floor) [] primary (All-nil (IsOfPrimary begun))
     of-primary (verdict.Missed how) = All-cons (IsOfPrimary begun) (Missed device how) [] primary (All-nil (IsOfPrimary begun))
 
+    once-more : (how : Verdict) → AllPairs AreApart (failed ++ failed_by device how)
+    once-more verdict.Done = subst (AllPairs AreApart) (sym (append-nil failed)) are.once
+    once-more (verdict.Forbidden floor) = all_pairs_push AreApart failed (Superseded device floor) are.once new
+    once-more (verdict.Missed how) = all_pairs_push AreApart failed (Missed device how) are.once new
+
     pub failures-told : AreFailures begun after (failed ++ failed_by device means)
     failures-told = record {
       primaries = All-append (IsOfPrimary begun) failed (failed_by device means) are.primaries (of-primary means);
       each = All-append (HasFailed begun after) failed (failed_by device means) each-later (failed-now means refl);
+      once = once-more means;
       asks = λ one how of is. Contains-append_left failed (failed_by device means) (Missed one how) (are.asks one how of (asks-before one how is));
       misses = λ one of told how was is. elim (told-cases past sent answer one of told was) [
         | inr before ↦ Contains-append_left failed (failed_by device means) (Missed one how) (are.misses one of told how before is)
@@ -196,6 +234,7 @@ module _ (begun : Begun) (past : List Step) (ticket device : ℕ) (msg : Msg) (a
   failures-fetched no_miss no_floor = record {
     primaries = are.primaries;
     each = each-later;
+    once = are.once;
     asks = λ one how of is. are.asks one how of (asks-before one how is);
     misses = λ one of told how was is. elim (told-cases past sent answer one of told was) [
       | inr before ↦ are.misses one of told how before is

@@ -30,6 +30,7 @@ use Rattle.sw_sync.specs.declared.errand.Errand.{Errand}
 use Rattle.sw_sync.specs.declared.errand.Errand.TheVariants.{Ask, Commit, Delete, Fetch, Store}
 use Rattle.sw_sync.proofs.Errands.{IsFor, sent_for}
 use Rattle.sw_sync.proofs.Freeing.{found-free, none-left}
+use Rattle.sw_sync.proofs.Living.{Living, WasFetched, living-brought, living-later, living-lost, living-retried, others-differ}
 use Rattle.sw_sync.proofs.Messages.{told-cases, told-gave, told-later}
 use Rattle.sw_sync.proofs.Surveys.{IsNoQuestion, missed-before, missed-later, no-question}
 
@@ -78,6 +79,7 @@ pub record Gathers (begun : Begun) (past : List Step) (repair : Repair) (due : L
   -- sources are tried only then
   pub worth : (source : Target) → Contains repair.tried source → (is_empty repair.lacking ≡ false) × (begun.cluster.policy.k ≤ repair.listed)
   pub misses : AreMisses begun past repair.stamp missed repair.misses
+  pub living : Living begun past repair.stamp repair.tried repair.lost repair.archives
 
 -- ---- it stays known
 
@@ -129,6 +131,7 @@ gathers-gave begun past repair errand later sent (ticket, bytes, is) gathers =
       free = gathers.free;
       worth = gathers.worth;
       misses = misses-later begun past (Gave sent) repair.stamp (λ device answer ticket same. cc) gathers.missed repair.misses gathers.misses;
+      living = living-later begun past repair.stamp repair.tried repair.lost repair.archives gathers.living (Gave sent);
     }
 
 -- ---- an answer that is not to a question
@@ -164,6 +167,7 @@ module _ (begun : Begun) (past : List Step) (repair : Repair) (due : List Errand
     free = gathers.free;
     worth = gathers.worth;
     misses = misses-told;
+    living = living-later begun past repair.stamp repair.tried repair.lost repair.archives gathers.living (Told sent answer);
   }
 
 -- ---- an answer to a fetch
@@ -180,9 +184,9 @@ fetched-brings begun repair index (Some (reply.Gone listing)) archive is = absur
 fetched-brings begun repair index (Some other) archive is = absurd (cc)
 
 -- and what is lost
-module _ (begun : Begun) (past : List Step) (repair : Repair) (brought : AreBrought begun past repair.stamp repair.archives) (index : ℕ) where
+module _ (begun : Begun) (past : List Step) (repair : Repair) (brought : AreBrought begun past repair.stamp repair.archives) (index : ℕ) (others : All (λ (other : ArchiveModel). other.index ≢ index) repair.archives) where
   read-loses : (bytes : List ℕ) (how : Miss) → IsRead begun.cluster begun.place repair index bytes (Loses how) → IsSpoilt begun past repair.stamp index bytes how
-  read-loses bytes (miss.Spoiled (spoil.Foreign foreign.Object)) is = (is.0, as-archive begun repair.stamp index bytes is.0 is.1, repair.archives, brought, is.2)
+  read-loses bytes (miss.Spoiled (spoil.Foreign foreign.Object)) is = (is.0, as-archive begun repair.stamp index bytes is.0 is.1, repair.archives, brought, others, is.2)
   read-loses bytes (miss.Spoiled other) is = is
   read-loses bytes other is = absurd is
 
@@ -201,7 +205,8 @@ no-fetches targets false = refl
 no-fetches [] true = refl
 no-fetches (target ∷ targets) true = omega (arith, no-fetches targets true, sum_by-cons (λ (one : Errand). cond (to_fetch one) 1 0) (Store target) (map Store targets))
 
-module _ (begun : Begun) (past : List Step) (repair : Repair) (due : List Errand) (gathers : Gathers begun past repair due) (ticket : ℕ) (source : Target) (answer : Option Reply) (there : Contains repair.tried source) where
+module _ (begun : Begun) (past : List Step) (repair : Repair) (due : List Errand) (gathers : Gathers begun past repair due) (ticket : ℕ) (source : Target) (answer : Option Reply) (there : Contains repair.tried source)
+    (untold : WasFetched begun past repair.stamp source → ⊥) where
   abbrev msg : Msg
   msg = message.Fetch begun.place repair.stamp source.index
 
@@ -258,6 +263,7 @@ module _ (begun : Begun) (past : List Step) (repair : Repair) (due : List Errand
         lost_tried = gathers.lost_tried;
         free = gathers.free;
         worth = gathers.worth;
+        living = living-brought begun past repair.stamp repair.tried repair.lost repair.archives gathers.living source there untold (Told fetched answer) (answer, told-now) archive (sym asked.index_is);
         misses = misses-told begun past repair due gathers ticket source.device msg answer (λ same. cc);
       }
     where
@@ -269,8 +275,11 @@ module _ (begun : Begun) (past : List Step) (repair : Repair) (due : List Errand
     abbrev without : Repair
     without = lost repair source how
 
+    others : All (λ (other : ArchiveModel). other.index ≢ source.index) repair.archives
+    others = others-differ begun past repair.stamp repair.tried repair.lost repair.archives gathers.living source there untold
+
     missed : MissedFetch begun now repair.stamp source how
-    missed = record { later = []; before = past; ticket = ticket; answer = answer; told = refl; missed = fetched-loses begun past repair gathers.brought source.index answer how is }
+    missed = record { later = []; before = past; ticket = ticket; answer = answer; told = refl; missed = fetched-loses begun past repair gathers.brought source.index others answer how is }
 
     abbrev all_missed : List (Target × Miss)
     all_missed = gathers.missed ++ (source, how) ∷ []
@@ -314,6 +323,7 @@ module _ (begun : Begun) (past : List Step) (repair : Repair) (due : List Errand
       free = λ lacking listed. inl (λ other among. none_passes (is_free without) repair.choices other none among);
       worth = gathers.worth;
       misses = misses-lost;
+      living = living-lost begun past repair.stamp repair.tried repair.lost repair.archives gathers.living source there untold (Told fetched answer) (answer, told-now);
     }
     gathers-retried (Some first) at =
         let free_one = found-free (is_free without) repair.choices first at in
@@ -339,6 +349,7 @@ module _ (begun : Begun) (past : List Step) (repair : Repair) (due : List Errand
           ];
           worth = λ other was. gathers.worth source there;
           misses = misses-lost;
+          living = living-retried begun past repair.stamp repair.tried repair.lost repair.archives gathers.living source there untold (Told fetched answer) (answer, told-now) first free_one.1;
         }
 
     pub gathers-lost : Gathers begun now (retried without (free_in without)) (due ++ due_retried (free_in without))

@@ -1,8 +1,8 @@
 -- What is handed out may be sent, by what was answered before.
-use Rattle.std.proofs.Common.{◌≡◌, inl, inr, ℕ, true, Contains, List, [], ◌∷◌, refl, sym, subst, ◌∙◌}
+use Rattle.std.proofs.Common.{◌≡◌, inl, inr, ℕ, true, Contains, List, [], ◌∷◌, Some, refl, sym, ap, subst, ◌∙◌}
 use Rattle.std.proofs.lemmas.List.Elements.{All-contains}
 use Rattle.sw_message.specs.Floors.{durable_at}
-use Rattle.sw_message.specs.Transcript.{Hand, IsRun, Step}
+use Rattle.sw_message.specs.Transcript.{Hand, IsRun, Step, given}
 use Rattle.sw_message.specs.declared.message.Msg.{Msg}
 use Rattle.sw_message.specs.declared.message.Msg.TheVariants as message
 use Rattle.sw_message.specs.declared.sent.Sent.{Sent}
@@ -11,18 +11,21 @@ use Rattle.sw_gather.specs.Choices.{firsts}
 use Rattle.sw_gather.proofs.Sources.{indices_of}
 use Rattle.sw_sync.specs.Answers.{IsOwnFloor, IsSource}
 use Rattle.sw_sync.specs.Parts.{Burial, Heard, Repair}
-use Rattle.sw_sync.specs.Sends.{MayCommit, MayFetch, MaySend, MayStore}
+use Rattle.sw_sync.specs.Sends.{IsFirst, MayCommit, MayFetch, MaySend, MayStore}
 use Rattle.sw_sync.specs.Standing.{ends}
-use Rattle.sw_sync.specs.Sync.{Begun, IsBegun, IsMessage, IsNext, IsRebuilt, primaries}
+use Rattle.sw_sync.specs.Sync.{Begun, IsBegun, IsMessage, IsNext, IsRebuilt, errand_of, primaries}
 use Rattle.sw_sync.specs.declared.errand.Errand.{Errand}
 use Rattle.sw_sync.specs.declared.errand.Errand.TheVariants.{Ask, Commit, Delete, Fetch, Store}
 use Rattle.sw_sync.specs.declared.stage.Stage.{Stage}
 use Rattle.sw_sync.specs.declared.stage.Stage.TheVariants.{Buries, Ends, Handoffs, Primaries, Repairs}
-use Rattle.sw_sync.proofs.Asking.{Asking, asking-may, asking-member}
+use Rattle.sw_sync.proofs.Asking.{Asking, asking-first, asking-may, asking-member}
+use Rattle.sw_sync.proofs.Burying as bury
 use Rattle.sw_sync.proofs.Burying.{Burying, ToBury, may-delete}
 use Rattle.sw_sync.proofs.Ending.{over_settled}
+use Rattle.sw_sync.proofs.Firsts.{about-for, alike-errands, not-given}
 use Rattle.sw_sync.proofs.Known.{Knows, known}
 use Rattle.sw_sync.proofs.Listed.{are-indices, choices-listed, lacks, many-indices, some-lacking}
+use Rattle.sw_sync.proofs.Repairing as repairs
 use Rattle.sw_sync.proofs.Repairing.{Repairing, ToRepair}
 use Rattle.sw_sync.proofs.Shows.{lists-plain, own-floor}
 use Rattle.sw_sync.proofs.Warrants.{head-of}
@@ -111,6 +114,31 @@ module _ (begun : Begun) (past : List Step) (sent : Sent) where
     may-by (Repairs repair) asks over knows =
         repair-may repair due knows errand (head-of begun valid sent past due later errand first (ToRepair begun past knows.heard repair) knows.does.sought) asks
     may-by (Ends end) asks over knows = absurd (let none = over refl in cc (sym none ∙ first))
+
+    -- and was not handed out before
+    abbrev NotGiven : Type 0
+    NotGiven = (other : Sent) → Contains (given past) other → errand_of other.device other.msg ≡ Some errand → ⊥
+
+    as-first : NotGiven → errand_of sent.device sent.msg ≡ Some errand → IsFirst past sent
+    as-first none about other there same alike =
+        none other there (ap (λ n. errand_of n other.msg) same ∙ alike-errands sent.device other.msg sent.msg alike ∙ about)
+
+    first-by : (stage : Stage) → IsMessage begun stage errand sent.device sent.msg → (ends stage ≡ true → due ≡ []) → Knows begun past stage due → IsFirst past sent
+    first-by (Handoffs heard) asks over knows = λ other there same alike. asking-first begun valid past heard due later (primaries begun) sent (Handoffs heard) errand first asks knows other there same
+    first-by (Primaries heard) asks over knows = λ other there same alike. asking-first begun valid past heard due later [] sent (Primaries heard) errand first asks knows other there same
+    first-by (Buries burial) asks over knows =
+        let ToDo : Errand → Type 0 = ToBury begun knows.heard burial.stamp in
+        as-first (not-given begun burial.stamp ToDo past due knows.once errand later first (head-of begun valid sent past due later errand first ToDo knows.does.sought))
+        (about-for begun burial.stamp errand sent (bury.message-for begun past burial due knows errand sent asks))
+    first-by (Repairs repair) asks over knows =
+        let ToDo : Errand → Type 0 = ToRepair begun past knows.heard repair in
+        as-first (not-given begun repair.stamp ToDo past due knows.once errand later first (head-of begun valid sent past due later errand first ToDo knows.does.sought))
+        (about-for begun repair.stamp errand sent (repairs.message-for begun past repair due knows errand sent asks))
+    first-by (Ends end) asks over knows = absurd (let none = over refl in cc (sym none ∙ first))
+
+  pub is-first : IsBegun begun → IsRun (IsNext begun) past → IsNext begun past (Hand sent) → IsFirst past sent
+  is-first valid run (state, is, (ticket, after, hands)) =
+      first-by valid state.due hands.later hands.errand hands.first state.stage hands.message (λ so. (over_settled begun valid past state is so).1) (known begun valid past run state is)
 
   pub may-send : IsBegun begun → IsRun (IsNext begun) past → IsNext begun past (Hand sent) → May
   may-send valid run (state, is, (ticket, after, hands)) =

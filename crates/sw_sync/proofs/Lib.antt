@@ -2,9 +2,11 @@ pub mod Asking
 pub mod Burying
 pub mod Causes
 pub mod Changes
+pub mod Counting
 pub mod Ending
 pub mod Errands
 pub mod Failures
+pub mod Firsts
 pub mod Fitting
 pub mod Freeing
 pub mod Gathers
@@ -12,6 +14,7 @@ pub mod Handed
 pub mod Hearings
 pub mod Known
 pub mod Listed
+pub mod Living
 pub mod Machine
 pub mod Messages
 pub mod Plans

@@ -125,7 +125,7 @@ pub record AreBrought (begun : Begun) (past : List Step) (stamp : ℕ) (archives
 abbrev pub IsSpoilt : Begun → (before : List Step) → (stamp index : ℕ) → List ℕ → Miss → Type 0
 IsSpoilt begun before stamp index bytes (miss.Spoiled (spoil.Foreign foreign.Object)) =
     (archive : ArchiveModel) × IsArchiveAt begun stamp index bytes archive
-    × (others : List ArchiveModel) × AreBrought begun before stamp others × Strays begun.cluster.policy others archive
+    × (others : List ArchiveModel) × AreBrought begun before stamp others × All (λ other. other.index ≢ index) others × Strays begun.cluster.policy others archive
 IsSpoilt begun before stamp index bytes (miss.Spoiled other) = IsSpoil begun.cluster begun.place stamp index bytes other
 IsSpoilt begun before stamp index bytes how = ⊥
 

@@ -1,6 +1,6 @@
 -- Why a sync ended as it did, by what was answered.
-use Rattle.std.specs.Prelude.{◌≡◌, ◌⊎◌, ℕ, ◌+◌, ◌-◌, ◌^◌, ◌<◌, ◌≤◌, Bool, true, false, not, min, if◌then◌else◌, List, [], ◌∷◌, ◌++◌, Contains, length, Option, Some, None}
-use Rattle.std.specs.List.{All}
+use Rattle.std.specs.Prelude.{◌≡◌, ◌≢◌, ◌⊎◌, ℕ, ◌+◌, ◌-◌, ◌^◌, ◌<◌, ◌≤◌, Bool, true, false, not, min, if◌then◌else◌, List, [], ◌∷◌, ◌++◌, Contains, length, Option, Some, None}
+use Rattle.std.specs.List.{All, AllPairs}
 use Rattle.sw_hashdir.specs.Directory.{IsAbove}
 use Rattle.sw_hashdir.specs.Listing.{ListingModel}
 use Rattle.sw_hashdir.specs.declared.floor.Floor.{Floor}
@@ -56,6 +56,7 @@ HasFailed begun past (Superseded device floor) = (msg : Msg) × WasTold past dev
 pub record AreFailures (begun : Begun) (past : List Step) (failed : List Failure) : Type 0 where
   pub primaries : All (λ one. is_primary begun.cluster (failed_device one) begun.place ≡ true) failed
   pub each : All (HasFailed begun past) failed
+  pub once : AllPairs (λ one other. failed_device one ≢ failed_device other) failed
   pub asks : (device : ℕ) (how : Miss) → is_primary begun.cluster device begun.place ≡ true → MissedAsk begun past device how → Contains failed (Missed device how)
   pub misses : (device : ℕ) (msg : Msg) (answer : Option Reply) (how : Miss) → WasTold past device msg answer → IsMissedWrite msg answer how → Contains failed (Missed device how)
   pub forbidden : (device : ℕ) (msg : Msg) (floor : Floor) → WasTold past device msg (Some (reply.Superseded floor)) → IsForbidden msg floor → Contains failed (Superseded device floor)

@@ -7,13 +7,13 @@ ghost use Rattle.sw_message.specs.declared.miss.Miss.{Miss as AMiss};
 ghost use Rattle.sw_message.specs.declared.sent.Sent.{Sent as ASent};
 ghost use Rattle.sw_sync.specs.Answers.{AllAnswered};
 ghost use Rattle.sw_sync.specs.Causes.{IsDone, IsNewer, IsTooFew, IsUnanswered};
-ghost use Rattle.sw_sync.specs.Sends.{MaySend};
+ghost use Rattle.sw_sync.specs.Sends.{IsFirst, MaySend};
 ghost use Rattle.sw_sync.specs.Sync.{Begun, IsBegun, IsEnd, IsNext};
 ghost use Rattle.sw_sync.specs.declared.sync_end.Failure.{Failure as AFailure};
 ghost use Rattle.sw_sync.specs.declared.sync_end.SyncEnd.{SyncEnd as ASyncEnd};
 ghost use Rattle.sw_sync.specs.declared.sync_end.SyncEnd.TheVariants.{Done, Newer, TooFew, Unanswered};
 
-/// Each end of a sync has its cause in what was answered, once each device of the cluster was asked. A
+/// Each end of a sync has its cause in what was answered, once each device of the cluster was asked. It hands out nothing twice. A
 /// tombstone goes only to primaries that listed a smaller floor or none; archives are fetched only for primaries that lack theirs, are
 /// stored only there, rebuilt from k that were brought; and entries are made durable only where they were listed plain, or were stored.
 pub fn sync_law()
@@ -28,4 +28,6 @@ pub fn sync_law()
         IsEnd begun past (TooFew stamp have misses) → IsTooFew begun past stamp have misses }
     ensures sends { (begun : Begun) (past : List Step) (sent : ASent) → IsBegun begun → IsRun (IsNext begun) past →
         IsNext begun past (Hand sent) → MaySend begun past sent.device sent.msg }
+    ensures first { (begun : Begun) (past : List Step) (sent : ASent) → IsBegun begun → IsRun (IsNext begun) past →
+        IsNext begun past (Hand sent) → IsFirst past sent }
 {}

@@ -1,6 +1,6 @@
 use Rattle.sw_sync.specs.declared.sync_end.SyncEnd.TheVariants.{Done, Newer, TooFew, Unanswered}
 use Rattle.sw_sync.proofs.Causes.{all-answered, has-cause}
-use Rattle.sw_sync.proofs.Handed.{may-send}
+use Rattle.sw_sync.proofs.Handed.{is-first, may-send}
 use Rattle.sw_sync.proofs.laws.sync_law.Goals as goal
 
 pub returns-clause-answered : goal.returns-clause-answered
@@ -20,3 +20,6 @@ returns-clause-too_few c = λ begun past stamp have misses valid run is. has-cau
 
 pub returns-clause-sends : goal.returns-clause-sends
 returns-clause-sends c = λ begun past sent valid run next. may-send begun past sent valid run next
+
+pub returns-clause-first : goal.returns-clause-first
+returns-clause-first c = λ begun past sent valid run next. is-first begun past sent valid run next
