@@ -28,7 +28,7 @@ use Rattle.sw_sync.specs.declared.stage.Stage.TheVariants.{Buries}
 use Rattle.sw_sync.proofs.Asking.{IsQuestion, Surveyed, surveyed-later}
 use Rattle.sw_sync.proofs.Counting.{apart-map}
 use Rattle.sw_sync.proofs.Errands.{Does, IsAbout, IsFor, does-begun, does-gave, does-over, does-told, sent-is}
-use Rattle.sw_sync.proofs.Failures.{AreApart, HasRefused, IsOfPrimary, asks-refused, none-failed, counted-more, failures-gave, failures-told, judged-delete, marked-is}
+use Rattle.sw_sync.proofs.Failures.{AreApart, HasRefused, IsOfPrimary, asks-refused, counted-more, failures-gave, failures-told, judged-delete, marked-is, none-failed}
 use Rattle.sw_sync.proofs.Firsts.{IsUntold, Once, about-for, each-once, once-begun, once-gave, once-told, told-about}
 use Rattle.sw_sync.proofs.Messages.{closed-each, told-each}
 use Rattle.sw_sync.proofs.Plans.{OwnFloor}

@@ -1,5 +1,5 @@
 -- No errand is handed out twice.
-use Rattle.std.proofs.Common.{◌≡◌, ◌⊎◌, inl, inr, ℕ, ◌+◌, ◌≤◌, ◌==◌, Bool, true, false, cond, Contains, List, ◌∷◌, ◌++◌, map, Option, Some, None, refl, sym, ap, subst, ◌∙◌, arith}
+use Rattle.std.proofs.Common.{◌≡◌, ◌⊎◌, inl, inr, ℕ, ◌+◌, ◌≤◌, ◌==◌, Bool, true, false, cond, Contains, List, [], ◌∷◌, ◌++◌, map, Option, Some, None, refl, sym, ap, subst, ◌∙◌, arith}
 use Rattle.std.specs.List.{All, AllPairs, count_by}
 use Rattle.std.proofs.lemmas.Bool.{eq-eqb, eqb-true}
 use Rattle.std.proofs.lemmas.List.Elements.{All-contains, All-contains_itself, All-cons, All-weaker}
@@ -82,6 +82,10 @@ each-once f R never xs apart errand =
       counted-map f (same_errand errand) xs,
       passes-once (λ x. same_errand errand (f x)) R (λ a b are first second. never a b are (sym (one-same errand (f a) first) ∙ one-same errand (f b) second)) xs apart,
     )
+
+-- one errand
+pub one-once : (errand other : Errand) → count_by (same_errand errand) (other ∷ []) ≤ 1
+one-once errand other = passes-once (same_errand errand) (λ a b. ⊥) (λ a b never first second. never) (other ∷ []) (λ i j d less within. absurd (omega (arith, less, within)))
 
 -- ---- what is handed out once
 

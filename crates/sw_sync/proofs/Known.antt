@@ -26,10 +26,13 @@ use Rattle.sw_sync.proofs.Asking.{Asking, IsQuestion, Surveyed, asking-begun, as
 use Rattle.sw_sync.proofs.Burying.{Burying, ToBury, burying-begun, burying-gave, burying-told}
 use Rattle.sw_sync.proofs.Ending.{empty-is, over_settled}
 use Rattle.sw_sync.proofs.Errands.{IsFor, does-open, sent_for}
+use Rattle.sw_sync.proofs.Fetched.{repairing-brought, repairing-lost}
 use Rattle.sw_sync.proofs.Firsts.{IsUntold, not-told}
 use Rattle.sw_sync.proofs.Messages.{none-open, opens-each}
 use Rattle.sw_sync.proofs.Plans.{HasNoFloor, IsOvertaken, by_plan}
-use Rattle.sw_sync.proofs.Repairing.{Repairing, ToRepair, repairing-begun, repairing-brought, repairing-committed, repairing-gave, repairing-lost, repairing-stored}
+use Rattle.sw_sync.proofs.Planned.{repairing-begun}
+use Rattle.sw_sync.proofs.Repairing.{Repairing, ToRepair, repairing-gave}
+use Rattle.sw_sync.proofs.Writes.{repairing-committed, repairing-stored}
 
 -- ---- what is known
 

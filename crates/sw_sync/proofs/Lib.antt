@@ -6,6 +6,7 @@ pub mod Counting
 pub mod Ending
 pub mod Errands
 pub mod Failures
+pub mod Fetched
 pub mod Firsts
 pub mod Fitting
 pub mod Freeing
@@ -17,6 +18,7 @@ pub mod Listed
 pub mod Living
 pub mod Machine
 pub mod Messages
+pub mod Planned
 pub mod Plans
 pub mod Rebuilt
 pub mod Repaired
@@ -28,3 +30,4 @@ pub mod Shows
 pub mod Surveys
 pub mod Targets
 pub mod Warrants
+pub mod Writes
