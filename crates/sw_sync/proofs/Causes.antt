@@ -13,13 +13,14 @@ use Rattle.sw_message.specs.declared.miss.Miss.TheVariants as miss
 use Rattle.sw_message.specs.declared.reply.Reply.{Reply}
 use Rattle.sw_message.specs.declared.reply.Reply.TheVariants as reply
 use Rattle.sw_message.proofs.Highest.{is_highest}
-use Rattle.sw_sync.specs.Causes.{AllAnswered, HadNothing, IsDone, IsMissedAsk, IsNewer, IsTooFew, IsUnanswered, WasTold}
+use Rattle.sw_sync.specs.Answers.{AllAnswered, IsMissedAsk, WasTold}
+use Rattle.sw_sync.specs.Causes.{HadNothing, IsDone, IsNewer, IsTooFew, IsUnanswered}
 use Rattle.sw_sync.specs.Parts.{Heard, Repair}
 use Rattle.sw_sync.specs.Sync.{Begun, IsBegun, IsEnd, IsNext, have, is_repaired, listing_of, primaries, repair_end}
 use Rattle.sw_sync.specs.declared.stage.Stage.{Stage}
 use Rattle.sw_sync.specs.declared.sync_end.SyncEnd.{SyncEnd}
 use Rattle.sw_sync.specs.declared.sync_end.SyncEnd.TheVariants.{Done, Newer, TooFew, Unanswered}
-use Rattle.sw_sync.proofs.Asking.{Surveyed}
+use Rattle.sw_sync.proofs.Asking.{Surveyed, primary-member}
 use Rattle.sw_sync.proofs.Burying.{was-buried}
 use Rattle.sw_sync.proofs.Known.{EndsBy, IsShort, Knows, known}
 use Rattle.sw_sync.proofs.Messages.{none-open}
@@ -44,7 +45,7 @@ HasCause begun past (TooFew stamp have misses) = IsTooFew begun past stamp have 
 module _ (begun : Begun) (valid : IsBegun begun) (past : List Step) (run : IsRun (IsNext begun) past) (none : opens past ≡ []) where
   unanswered : (heard : Heard) → Surveyed begun past heard → listing_of heard.lists begun.device ≡ None → IsUnanswered begun past begun.device
   unanswered heard surveyed missing =
-      let told = surveyed.answered begun.device (inr (Contains-from_among (primaries begun) begun.device valid.primary)) in
+      let told = surveyed.answered begun.device (primary-member begun valid begun.device (Contains-from_among (primaries begun) begun.device valid.primary)) in
       elim (held-or-missed told.0) [
         | inl held ↦
             let was = subst (λ (answer : Option Reply). WasTold past begun.device (message.Ask begun.place) answer) held.1 told.1 in
@@ -78,7 +79,7 @@ module _ (begun : Begun) (valid : IsBegun begun) (past : List Step) (run : IsRun
   end-cause end (inr (inl (burial, burying, is))) = subst (HasCause begun past) (sym is) (inr (inl (was-buried begun past burial run none burying)))
   end-cause end (inr (inr (repair, repairing, is))) = subst (HasCause begun past) (sym is) (repair-cause repair repairing)
 
--- once it is over, each device of the place has answered or was given up
+-- once it is over, each device of the cluster has answered or was given up
 answered-by : (begun : Begun) (past : List Step) (end : SyncEnd) → EndsBy begun past end → AllAnswered begun past
 answered-by begun past end (inl (heard, surveyed, short)) = surveyed.answered
 answered-by begun past end (inr (inl (burial, burying, is))) = burying.surveyed.answered

@@ -1,14 +1,13 @@
 -- A sync that took an answer, read one, worked out what follows, or handed out a message.
-use Rattle.std.proofs.Common.{◌≡◌, ◌⊎◌, inl, inr, ℕ, ◌+◌, Bool, true, false, ◌++◌, List, [], ◌∷◌, length, nat_lt, not, Option, Some, None, is_some, Result, Ok, Err, refl, sym, ap, subst, ◌∙◌, arith}
+use Rattle.std.proofs.Common.{◌≡◌, ◌⊎◌, inl, inr, ℕ, Bool, true, false, ◌++◌, List, [], ◌∷◌, length, nat_lt, Option, Some, None, is_some, refl, sym, ap, subst, ◌∙◌}
 use Rattle.std.specs.Prelude.{IsTrue, MatchOption}
 use Rattle.std.specs.List.{All, slice_get}
 use Rattle.std.proofs.lemmas.Bool.{cases_Bool}
 use Rattle.std.proofs.lemmas.List.Elements.{All-cons, All-filter, All-nil, All-weaker}
 use Rattle.std.proofs.lemmas.Option.{same_Some}
-use Rattle.sw_types.specs.declared.memory.NoMemory.{NoMemory}
 use Rattle.sw_hashpath.specs.Place.{PlaceModel}
 use Rattle.sw_ring.specs.Cluster.{ClusterModel}
-use Rattle.sw_message.specs.Transcript.{Gave, Hand, IsRun, Over, Step, Told, Wait, given, is_not, is_waiting, open_at, opens, told}
+use Rattle.sw_message.specs.Transcript.{Gave, Hand, IsRun, Over, Step, Told, Wait, is_not, is_waiting, open_at, opens, told}
 use Rattle.sw_message.specs.declared.message.Msg.{Msg}
 use Rattle.sw_message.specs.declared.reply.Reply.{Reply}
 use Rattle.sw_message.specs.declared.sent.Sent.{Sent}
@@ -19,7 +18,7 @@ use Rattle.sw_gather.proofs.Mailboxes.{Taken}
 use Rattle.sw_sync.specs.Hearing.{TookFirst}
 use Rattle.sw_sync.specs.Standing.{IsAbout, IsOpen, Lead, MayHand, Stands, SyncModel, ends}
 use Rattle.sw_sync.specs.State.{State}
-use Rattle.sw_sync.specs.Sync.{Begun, Hands, Hears, IsBegun, IsEnd, IsMessage, IsNext, IsState, Takes, beginning, errand_of, next_of, settled}
+use Rattle.sw_sync.specs.Sync.{Begun, Hands, IsBegun, IsEnd, IsMessage, IsNext, IsState, Takes, beginning, errand_of, next_of, settled}
 use Rattle.sw_sync.specs.declared.errand.Errand.{Errand}
 use Rattle.sw_sync.specs.declared.errand.Errand.TheVariants.{Ask, Commit, Delete, Fetch, Store}
 use Rattle.sw_sync.specs.declared.stage.Stage.{Stage}
@@ -27,7 +26,7 @@ use Rattle.sw_sync.specs.declared.stage.Stage.TheVariants.{Buries, Ends, Handoff
 use Rattle.sw_sync.specs.declared.sync_end.SyncEnd.{SyncEnd}
 use Rattle.sw_sync.proofs.Hearings.{LeadsTo}
 use Rattle.sw_sync.proofs.Machine.{hands_of, hands_warranted, over_settled, settled_over}
-use Rattle.sw_sync.proofs.Settled.{end_of, settled_end, settled_over_still, settled_stays, settled_waiting, some_open}
+use Rattle.sw_sync.proofs.Settled.{end_of, settled_end, settled_stays, settled_waiting, some_open}
 
 -- ---- answers that are to be read
 

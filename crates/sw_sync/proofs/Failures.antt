@@ -1,11 +1,13 @@
 -- What primaries did not do, by their answers, and how often something was done.
-use Rattle.std.proofs.Common.{◌≡◌, inl, inr, ℕ, ◌+◌, ◌-◌, ◌^◌, Bool, true, false, Contains, List, [], ◌∷◌, ◌++◌, Option, Some, None, refl, sym, ap, subst, ◌∙◌, arith}
+use Rattle.std.proofs.Common.{◌≡◌, ◌≢◌, ◌⊎◌, inl, inr, ℕ, ◌+◌, ◌-◌, ◌^◌, Bool, true, false, Contains, List, [], ◌∷◌, ◌++◌, append-nil, Option, Some, None, refl, sym, ap, subst, ◌∙◌, arith}
 use Rattle.std.specs.Prelude.{if◌then◌else◌, min}
-use Rattle.std.specs.List.{All}
+use Rattle.std.specs.List.{All, AllPairs}
 use Rattle.std.proofs.lemmas.List.Elements.{All-append, All-cons, All-nil, All-weaker, Contains-append_left, Contains-append_right}
+use Rattle.std.proofs.lemmas.List.Quantifiers.{all_pairs_push}
 use Rattle.sw_hashpath.specs.Place.{PlaceModel}
 use Rattle.sw_hashdir.specs.declared.floor.Floor.{Floor}
 use Rattle.sw_message.specs.Floors.{refuses, stands_above}
+use Rattle.sw_message.specs.Message.{is_primary}
 use Rattle.sw_message.specs.Miss.{miss_of}
 use Rattle.sw_message.specs.Transcript.{Gave, Step, Told}
 use Rattle.sw_message.specs.declared.message.Msg.{Msg}
@@ -21,12 +23,13 @@ use Rattle.sw_quorum.specs.Verdicts.{commit_verdict, delete_verdict, store_verdi
 use Rattle.sw_quorum.specs.declared.verdict.Verdict.{Verdict}
 use Rattle.sw_quorum.specs.declared.verdict.Verdict.TheVariants as verdict
 use Rattle.sw_gather.proofs.Lists.{here}
-use Rattle.sw_sync.specs.Causes.{AreFailures, HasFailed, IsForbidden, IsMissedWrite, MissedAsk, WasTold, capped, is_committed, is_marked}
-use Rattle.sw_sync.specs.Sync.{Begun, counted, failed_by, primaries}
+use Rattle.sw_sync.specs.Answers.{MissedAsk, WasTold}
+use Rattle.sw_sync.specs.Causes.{AreFailures, HasFailed, IsForbidden, IsMissedWrite, capped, failed_device, is_committed, is_marked}
+use Rattle.sw_sync.specs.Sync.{Begun, counted, failed_by}
 use Rattle.sw_sync.specs.declared.sync_end.Failure.{Failure}
 use Rattle.sw_sync.specs.declared.sync_end.Failure.TheVariants.{Missed, Superseded}
 use Rattle.sw_sync.proofs.Messages.{told-cases, told-gave, told-later}
-use Rattle.sw_sync.proofs.Surveys.{missed-later}
+use Rattle.sw_sync.proofs.Surveys.{missed-before, missed-later, no-question}
 
 -- ---- what an answer to a write means
 
@@ -115,17 +118,52 @@ stored-done stamp (Some other) is = absurd (cc)
 
 -- ---- failures
 
+abbrev pub IsOfPrimary : Begun → Failure → Type 0
+IsOfPrimary begun one = is_primary begun.cluster (failed_device one) begun.place ≡ true
+
+abbrev pub AreApart : Failure → Failure → Type 0
+AreApart one other = failed_device one ≢ failed_device other
+
+-- a device did not do what it was told
+abbrev pub HasRefused : Msg → Option Reply → Type 0
+HasRefused msg answer = ((how : Miss) × IsMissedWrite msg answer how) ⊎ ((floor : Floor) × (answer ≡ Some (reply.Superseded floor)) × IsForbidden msg floor)
+
+pub asks-refused : (place : PlaceModel) (answer : Option Reply) → HasRefused (message.Ask place) answer → ⊥
+asks-refused place answer (inl missed) = missed.1
+asks-refused place answer (inr forbidden) = forbidden.2
+
+pub fetch-refused : (place : PlaceModel) (stamp index : ℕ) (answer : Option Reply) → HasRefused (message.Fetch place stamp index) answer → ⊥
+fetch-refused place stamp index answer (inl missed) = missed.1
+fetch-refused place stamp index answer (inr forbidden) = forbidden.2
+
+pub synced-refused : (place : PlaceModel) (stamp index : ℕ) (bytes : List ℕ) → HasRefused (message.PutFrag place stamp index bytes) (Some reply.Synced) → ⊥
+synced-refused place stamp index bytes (inl missed) = missed.1
+synced-refused place stamp index bytes (inr forbidden) = let same = forbidden.1 in cc
+
+-- a device that answered as it was asked, and refused nothing, is none of those that failed
+pub none-failed : (begun : Begun) (past : List Step) (device : ℕ) → ((how : Miss) → MissedAsk begun past device how → ⊥) → ((msg : Msg) (answer : Option Reply) → WasTold past device msg answer → HasRefused msg answer → ⊥)
+    → (failed : List Failure) → All (HasFailed begun past) failed → All (λ one. failed_device one ≢ device) failed
+none-failed begun past device asked refused failed each = All-weaker (HasFailed begun past) (λ one. failed_device one ≢ device) differs failed each
+  where
+    differs : (one : Failure) → HasFailed begun past one → failed_device one ≢ device
+    differs (Missed other how) (inl missed) same = asked how (subst (λ n. MissedAsk begun past n how) same missed)
+    differs (Missed other how) (inr (msg, answer, told, missed)) same = refused msg answer (subst (λ n. WasTold past n msg answer) same told) (inl (how, missed))
+    differs (Superseded other floor) (msg, told, forbidden) same =
+        refused msg (Some (reply.Superseded floor)) (subst (λ n. WasTold past n msg (Some (reply.Superseded floor))) same told) (inr (floor, refl, forbidden))
+
 module _ (begun : Begun) (past : List Step) (step : Step) where
   failed-later : (failure : Failure) → HasFailed begun past failure → HasFailed begun (step ∷ past) failure
-  failed-later (Missed device how) (primary, inl ask) = (primary, inl (missed-later begun past step device how ask))
-  failed-later (Missed device how) (primary, inr (msg, answer, told, is)) = (primary, inr (msg, answer, told-later past step device msg answer told, is))
-  failed-later (Superseded device floor) (primary, msg, told, is) = (primary, msg, told-later past step device msg (Some (reply.Superseded floor)) told, is)
+  failed-later (Missed device how) (inl ask) = inl (missed-later begun past step device how ask)
+  failed-later (Missed device how) (inr (msg, answer, told, is)) = inr (msg, answer, told-later past step device msg answer told, is)
+  failed-later (Superseded device floor) (msg, told, is) = (msg, told-later past step device msg (Some (reply.Superseded floor)) told, is)
 
 -- a message is handed out
 pub failures-gave : (begun : Begun) (past : List Step) (sent : Sent) (failed : List Failure) → AreFailures begun past failed → AreFailures begun (Gave sent ∷ past) failed
 failures-gave begun past sent failed are = record {
+  primaries = are.primaries;
   each = All-weaker (HasFailed begun past) (HasFailed begun (Gave sent ∷ past)) (failed-later begun past (Gave sent)) failed are.each;
-  asks = λ device how primary is. are.asks device how primary (record { answer = is.answer; told = told-gave past sent device (message.Ask begun.place) is.answer is.told; missed = is.missed });
+  once = are.once;
+  asks = λ device how primary is. are.asks device how primary (missed-before begun past (Gave sent) (λ device answer ticket same. cc) device how is);
   misses = λ device msg answer how told is. are.misses device msg answer how (told-gave past sent device msg answer told) is;
   forbidden = λ device msg floor told is. are.forbidden device msg floor (told-gave past sent device msg (Some (reply.Superseded floor)) told) is;
 }
@@ -139,16 +177,13 @@ module _ (begun : Begun) (past : List Step) (ticket device : ℕ) (msg : Msg) (a
   after = Told sent answer ∷ past
 
   asks-before : (primary : ℕ) (how : Miss) → MissedAsk begun after primary how → MissedAsk begun past primary how
-  asks-before primary how is = elim (told-cases past sent answer primary (message.Ask begun.place) is.answer is.told) [
-    | inl this ↦ absurd (other this.1)
-    | inr before ↦ record { answer = is.answer; told = before; missed = is.missed }
-  ]
+  asks-before = missed-before begun past (Told sent answer) (no-question begun sent answer other)
 
   each-later : All (HasFailed begun after) failed
   each-later = All-weaker (HasFailed begun past) (HasFailed begun after) (failed-later begun past (Told sent answer)) failed are.each
 
   -- to a write
-  module _ (means : Verdict) (judged : IsJudged msg answer means) (primary : Contains (primaries begun) device) where
+  module _ (means : Verdict) (judged : IsJudged msg answer means) (primary : is_primary begun.cluster device begun.place ≡ true) (new : All (λ one. failed_device one ≢ device) failed) where
     told-now : WasTold after device msg answer
     told-now = (ticket, here (Told sent answer) past)
 
@@ -156,13 +191,25 @@ module _ (begun : Begun) (past : List Step) (ticket device : ℕ) (msg : Msg) (a
     failed-now verdict.Done is = All-nil (HasFailed begun after)
     failed-now (verdict.Forbidden floor) is =
         let was = judged.was_forbidden floor is in
-        All-cons (HasFailed begun after) (Superseded device floor) [] (primary, msg, subst (WasTold after device msg) was.0 told-now, was.1) (All-nil (HasFailed begun after))
+        All-cons (HasFailed begun after) (Superseded device floor) [] (msg, subst (WasTold after device msg) was.0 told-now, was.1) (All-nil (HasFailed begun after))
     failed-now (verdict.Missed how) is =
-        All-cons (HasFailed begun after) (Missed device how) [] (primary, inr (msg, answer, told-now, judged.was_missed how is)) (All-nil (HasFailed begun after))
+        All-cons (HasFailed begun after) (Missed device how) [] (inr (msg, answer, told-now, judged.was_missed how is)) (All-nil (HasFailed begun after))
+
+    of-primary : (how : Verdict) → All (IsOfPrimary begun) (failed_by device how)
+    of-primary verdict.Done = All-nil (IsOfPrimary begun)
+    of-primary (verdict.Forbidden floor) = All-cons (IsOfPrimary begun) (Superseded device floor) [] primary (All-nil (IsOfPrimary begun))
+    of-primary (verdict.Missed how) = All-cons (IsOfPrimary begun) (Missed device how) [] primary (All-nil (IsOfPrimary begun))
+
+    once-more : (how : Verdict) → AllPairs AreApart (failed ++ failed_by device how)
+    once-more verdict.Done = subst (AllPairs AreApart) (sym (append-nil failed)) are.once
+    once-more (verdict.Forbidden floor) = all_pairs_push AreApart failed (Superseded device floor) are.once new
+    once-more (verdict.Missed how) = all_pairs_push AreApart failed (Missed device how) are.once new
 
     pub failures-told : AreFailures begun after (failed ++ failed_by device means)
     failures-told = record {
+      primaries = All-append (IsOfPrimary begun) failed (failed_by device means) are.primaries (of-primary means);
       each = All-append (HasFailed begun after) failed (failed_by device means) each-later (failed-now means refl);
+      once = once-more means;
       asks = λ one how of is. Contains-append_left failed (failed_by device means) (Missed one how) (are.asks one how of (asks-before one how is));
       misses = λ one of told how was is. elim (told-cases past sent answer one of told was) [
         | inr before ↦ Contains-append_left failed (failed_by device means) (Missed one how) (are.misses one of told how before is)
@@ -185,7 +232,9 @@ module _ (begun : Begun) (past : List Step) (ticket device : ℕ) (msg : Msg) (a
   -- to a fetch
   pub failures-fetched : ((how : Miss) → IsMissedWrite msg answer how → ⊥) → ((floor : Floor) → IsForbidden msg floor → ⊥) → AreFailures begun after failed
   failures-fetched no_miss no_floor = record {
+    primaries = are.primaries;
     each = each-later;
+    once = are.once;
     asks = λ one how of is. are.asks one how of (asks-before one how is);
     misses = λ one of told how was is. elim (told-cases past sent answer one of told was) [
       | inr before ↦ are.misses one of told how before is

@@ -34,7 +34,7 @@ lost-there lost source dead =
     let one = some_passes (same_target source) lost (not-false (list_any (same_target source) lost) dead) in
     subst (Contains lost) (sym (same_source source one.0 one.2)) one.1
 
-not-lost_live : (lost : List Target) (source : Target) → (Contains lost source → ⊥) → is_live lost source ≡ true
+pub not-lost_live : (lost : List Target) (source : Target) → (Contains lost source → ⊥) → is_live lost source ≡ true
 not-lost_live lost source never = elim (cases_Bool (is_live lost source)) [ inl live ↦ live | inr dead ↦ absurd (never (lost-there lost source dead)) ]
 
 pub tried-there : (tried : List Target) (source : Target) → was_tried tried source ≡ true → Contains tried source
@@ -59,7 +59,7 @@ pub free-untried : (tried lost : List Target) (source : Target) → free_by trie
 free-untried tried lost source free there =
     true≢false (sym (there-tried tried source there) ∙ not-true (was_tried tried source) (and_parts (not (was_tried tried source)) (not (is_taken tried lost source.index)) free).0)
 
-free-untaken : (tried lost : List Target) (source other : Target) → free_by tried lost source ≡ true → Contains tried other → other.index ≡ source.index → is_live lost other ≡ true → ⊥
+pub free-untaken : (tried lost : List Target) (source other : Target) → free_by tried lost source ≡ true → Contains tried other → other.index ≡ source.index → is_live lost other ≡ true → ⊥
 free-untaken tried lost source other free there same live =
     let taken = any_passes (holds lost source.index) tried other there (and_from (has_index source.index other) (is_live lost other) (eq-eqb other.index source.index same) live) in
     true≢false (sym taken ∙ not-true (is_taken tried lost source.index) (and_parts (not (was_tried tried source)) (not (is_taken tried lost source.index)) free).1)

@@ -1,5 +1,5 @@
 -- Archives are fetched: each that was brought, each source that was lost, and which are tried.
-use Rattle.std.proofs.Common.{◌≡◌, ◌≢◌, ◌⊎◌, inl, inr, ℕ, ◌+◌, ◌≤◌, ◌==◌, Bool, true, false, cond, Contains, List, [], ◌∷◌, ◌++◌, length, map, Option, Some, None, refl, sym, ap, subst, ◌∙◌, arith}
+use Rattle.std.proofs.Common.{◌≡◌, ◌≢◌, ◌⊎◌, inl, inr, ℕ, ◌+◌, ◌≤◌, ◌==◌, Bool, true, false, cond, Contains, List, [], ◌∷◌, ◌++◌, append_assoc, length, map, Option, Some, None, refl, sym, ap, subst, ◌∙◌, arith}
 use Rattle.std.specs.Prelude.{if◌then◌else◌}
 use Rattle.std.specs.List.{All, count_by}
 use Rattle.std.proofs.lemmas.Bool.{true≢false}
@@ -22,15 +22,17 @@ use Rattle.sw_message.specs.declared.spoil.Spoil.TheVariants as spoil
 use Rattle.sw_message.specs.declared.target.Target.{Target}
 use Rattle.sw_quorum.specs.Transcripts.{closed}
 use Rattle.sw_gather.proofs.Lists.{here, none_passes}
-use Rattle.sw_sync.specs.Causes.{AreBrought, IsMissOf, IsMissedFetch, IsSpoilt, MissedAsk, MissedFetch, WasBrought, WasTold}
+use Rattle.sw_sync.specs.Answers.{AreBrought, IsArchiveAt, IsMissedFetch, IsSpoilt, MissedAsk, MissedFetch, WasBrought, WasTold}
+use Rattle.sw_sync.specs.Causes.{AreMisses, lost_misses}
 use Rattle.sw_sync.specs.Parts.{Repair}
 use Rattle.sw_sync.specs.Sync.{Begun, Brings, IsFetched, IsRead, IsWanted, Loses, brought, due_brought, due_retried, free_in, is_empty, is_free, lost, retried}
 use Rattle.sw_sync.specs.declared.errand.Errand.{Errand}
 use Rattle.sw_sync.specs.declared.errand.Errand.TheVariants.{Ask, Commit, Delete, Fetch, Store}
 use Rattle.sw_sync.proofs.Errands.{IsFor, sent_for}
 use Rattle.sw_sync.proofs.Freeing.{found-free, none-left}
+use Rattle.sw_sync.proofs.Living.{Living, WasFetched, living-brought, living-later, living-lost, living-retried, others-differ}
 use Rattle.sw_sync.proofs.Messages.{told-cases, told-gave, told-later}
-use Rattle.sw_sync.proofs.Surveys.{missed-later}
+use Rattle.sw_sync.proofs.Surveys.{IsNoQuestion, missed-before, missed-later, no-question}
 
 -- ---- fetches are counted
 
@@ -54,10 +56,10 @@ fetch-for begun stamp ticket bytes (Commit target) = refl
 
 -- ---- what is known
 
--- a source was lost, or has brought its archive
-abbrev pub IsSpent : Begun → List Step → Repair → Target → Type 0
-IsSpent begun past repair source =
-    (((how : Miss) × MissedFetch begun past repair.stamp source how) × Contains repair.lost source) ⊎ ((archive : ArchiveModel) × Contains repair.archives archive × (archive.index ≡ source.index))
+-- a source was lost by one of these misses, or has brought its archive
+abbrev pub IsSpent : List (Target × Miss) → Repair → Target → Type 0
+IsSpent missed repair source =
+    (((how : Miss) × Contains missed (source, how)) × Contains repair.lost source) ⊎ ((archive : ArchiveModel) × Contains repair.archives archive × (archive.index ≡ source.index))
 
 abbrev pub NoneFree : Repair → Type 0
 NoneFree repair = (source : Target) → Contains repair.choices source → is_free repair source ≡ false
@@ -65,7 +67,8 @@ NoneFree repair = (source : Target) → Contains repair.choices source → is_fr
 pub record Gathers (begun : Begun) (past : List Step) (repair : Repair) (due : List Errand) : Type 0 where
   pub brought : AreBrought begun past repair.stamp repair.archives
   pub few : length repair.archives ≤ begun.cluster.policy.k
-  pub spent : (source : Target) (answer : Option Reply) → WasTold past source.device (message.Fetch begun.place repair.stamp source.index) answer → IsSpent begun past repair source
+  pub missed : List (Target × Miss)
+  pub spent : (source : Target) (answer : Option Reply) → WasTold past source.device (message.Fetch begun.place repair.stamp source.index) answer → IsSpent missed repair source
   -- each source that is tried is due, open or spent
   pub tries : count_by is_fetch (given past) + count_by to_fetch due ≡ length repair.tried
   pub losses : length repair.archives + length repair.lost ≡ count_by is_fetch (closed past)
@@ -73,8 +76,10 @@ pub record Gathers (begun : Begun) (past : List Step) (repair : Repair) (due : L
   pub lost_tried : All (Contains repair.tried) repair.lost
   -- where there is something to be fetched, each that was lost had another tried in its place, or there was none
   pub free : is_empty repair.lacking ≡ false → begun.cluster.policy.k ≤ repair.listed → NoneFree repair ⊎ (length repair.tried ≡ begun.cluster.policy.k + length repair.lost)
-  pub misses : All (IsMissOf begun past repair.stamp) repair.misses
-  pub asks : (device : ℕ) (how : Miss) → MissedAsk begun past device how → Contains repair.misses (device, how)
+  -- sources are tried only then
+  pub worth : (source : Target) → Contains repair.tried source → (is_empty repair.lacking ≡ false) × (begun.cluster.policy.k ≤ repair.listed)
+  pub misses : AreMisses begun past repair.stamp missed repair.misses
+  pub living : Living begun past repair.stamp repair.tried repair.lost repair.archives
 
 -- ---- it stays known
 
@@ -86,7 +91,7 @@ module _ (begun : Begun) (past : List Step) (step : Step) (stamp : ℕ) where
           device = was.device;
           bytes = was.bytes;
           told = told-later past step was.device (message.Fetch begun.place stamp archive.index) (Some (reply.Fragment was.bytes)) was.told;
-          wanted = was.wanted;
+          is = was.is;
         }) archives are.each;
     distinct = are.distinct;
   }
@@ -94,17 +99,14 @@ module _ (begun : Begun) (past : List Step) (step : Step) (stamp : ℕ) where
   fetch-later : (source : Target) (how : Miss) → MissedFetch begun past stamp source how → MissedFetch begun (step ∷ past) stamp source how
   fetch-later source how was = record { later = step ∷ was.later; before = was.before; ticket = was.ticket; answer = was.answer; told = ap (λ these. step ∷ these) was.told; missed = was.missed }
 
-  miss-later : (one : ℕ × Miss) → IsMissOf begun past stamp one → IsMissOf begun (step ∷ past) stamp one
-  miss-later one (inl ask) = inl (missed-later begun past step one.0 one.1 ask)
-  miss-later one (inr (index, was)) = inr (index, fetch-later (record { index = index; device = one.0 }) one.1 was)
-
-  misses-later : (misses : List (ℕ × Miss)) → All (IsMissOf begun past stamp) misses → All (IsMissOf begun (step ∷ past) stamp) misses
-  misses-later misses are = All-weaker (IsMissOf begun past stamp) (IsMissOf begun (step ∷ past) stamp) miss-later misses are
-
-module _ (begun : Begun) (past : List Step) (step : Step) (repair : Repair) where
-  spent-later : (source : Target) → IsSpent begun past repair source → IsSpent begun (step ∷ past) repair source
-  spent-later source (inl (missed, there)) = inl ((missed.0, fetch-later begun past step repair.stamp source missed.0 missed.1), there)
-  spent-later source (inr one) = inr one
+  misses-later : IsNoQuestion begun step → (missed : List (Target × Miss)) (misses : List (ℕ × Miss)) → AreMisses begun past stamp missed misses → AreMisses begun (step ∷ past) stamp missed misses
+  misses-later other missed misses are = record {
+    asked = are.asked;
+    misses_are = are.misses_are;
+    asked_are = All-weaker (λ (one : ℕ × Miss). MissedAsk begun past one.0 one.1) (λ (one : ℕ × Miss). MissedAsk begun (step ∷ past) one.0 one.1) (λ one is. missed-later begun past step one.0 one.1 is) are.asked are.asked_are;
+    all_asked = λ device how is. are.all_asked device how (missed-before begun past step other device how is);
+    lost_are = All-weaker (λ (one : Target × Miss). MissedFetch begun past stamp one.0 one.1) (λ (one : Target × Miss). MissedFetch begun (step ∷ past) stamp one.0 one.1) (λ one is. fetch-later one.0 one.1 is) missed are.lost_are;
+  }
 
 -- a message is handed out
 pub gathers-gave : (begun : Begun) (past : List Step) (repair : Repair) (errand : Errand) (later : List Errand) (sent : Sent) → IsFor begun repair.stamp errand sent → Gathers begun past repair (errand ∷ later)
@@ -114,8 +116,8 @@ gathers-gave begun past repair errand later sent (ticket, bytes, is) gathers =
     record {
       brought = brought-later begun past (Gave sent) repair.stamp repair.archives gathers.brought;
       few = gathers.few;
-      spent = λ source answer was.
-          spent-later begun past (Gave sent) repair source (gathers.spent source answer (told-gave past sent source.device (message.Fetch begun.place repair.stamp source.index) answer was));
+      missed = gathers.missed;
+      spent = λ source answer was. gathers.spent source answer (told-gave past sent source.device (message.Fetch begun.place repair.stamp source.index) answer was);
       tries = omega (
         arith,
         gathers.tries,
@@ -127,8 +129,9 @@ gathers-gave begun past repair errand later sent (ticket, bytes, is) gathers =
       chosen = gathers.chosen;
       lost_tried = gathers.lost_tried;
       free = gathers.free;
-      misses = misses-later begun past (Gave sent) repair.stamp repair.misses gathers.misses;
-      asks = λ device how was. gathers.asks device how (record { answer = was.answer; told = told-gave past sent device (message.Ask begun.place) was.answer was.told; missed = was.missed });
+      worth = gathers.worth;
+      misses = misses-later begun past (Gave sent) repair.stamp (λ device answer ticket same. cc) gathers.missed repair.misses gathers.misses;
+      living = living-later begun past repair.stamp repair.tried repair.lost repair.archives gathers.living (Gave sent);
     }
 
 -- ---- an answer that is not to a question
@@ -140,11 +143,8 @@ module _ (begun : Begun) (past : List Step) (repair : Repair) (due : List Errand
   abbrev after : List Step
   after = Told sent answer ∷ past
 
-  asks-later : (one : ℕ) (how : Miss) → MissedAsk begun after one how → Contains repair.misses (one, how)
-  asks-later one how was = elim (told-cases past sent answer one (message.Ask begun.place) was.answer was.told) [
-    | inl this ↦ absurd (other this.1)
-    | inr before ↦ gathers.asks one how (record { answer = was.answer; told = before; missed = was.missed })
-  ]
+  misses-told : AreMisses begun after repair.stamp gathers.missed repair.misses
+  misses-told = misses-later begun past (Told sent answer) repair.stamp (no-question begun sent answer other) gathers.missed repair.misses gathers.misses
 
   none-more : (more : List Errand) → count_by to_fetch more ≡ 0 → count_by to_fetch (due ++ more) ≡ count_by to_fetch due
   none-more more none = omega (arith, none, sum_by-append (λ (one : Errand). cond (to_fetch one) 1 0) due more)
@@ -155,20 +155,25 @@ module _ (begun : Begun) (past : List Step) (repair : Repair) (due : List Errand
   gathers-other more commits rebuilt failed no_fetch none = record {
     brought = brought-later begun past (Told sent answer) repair.stamp repair.archives gathers.brought;
     few = gathers.few;
+    missed = gathers.missed;
     spent = λ source told was. elim (told-cases past sent answer source.device (message.Fetch begun.place repair.stamp source.index) told was) [
       | inl this ↦ absurd (true≢false (sym (ap fetches this.1) ∙ no_fetch))
-      | inr before ↦ spent-later begun past (Told sent answer) repair source (gathers.spent source told before)
+      | inr before ↦ gathers.spent source told before
     ];
     tries = omega (arith, gathers.tries, none-more more none);
     losses = omega (arith, gathers.losses, sum_by-cons (λ (one : Sent). cond (is_fetch one) 1 0) sent (closed past), ap {B = ℕ} (λ b. cond b 1 0) no_fetch);
     chosen = gathers.chosen;
     lost_tried = gathers.lost_tried;
     free = gathers.free;
-    misses = misses-later begun past (Told sent answer) repair.stamp repair.misses gathers.misses;
-    asks = asks-later;
+    worth = gathers.worth;
+    misses = misses-told;
+    living = living-later begun past repair.stamp repair.tried repair.lost repair.archives gathers.living (Told sent answer);
   }
 
 -- ---- an answer to a fetch
+
+as-archive : (begun : Begun) (stamp index : ℕ) (bytes : List ℕ) (archive : ArchiveModel) → IsWanted begun.cluster begun.place stamp index bytes archive → IsArchiveAt begun stamp index bytes archive
+as-archive begun stamp index bytes archive wanted = record { is = wanted.0; asked = wanted.1 }
 
 -- what brings an archive
 pub fetched-brings : (begun : Begun) (repair : Repair) (index : ℕ) (answer : Option Reply) (archive : ArchiveModel) → IsFetched begun.cluster begun.place repair index answer (Brings archive)
@@ -179,9 +184,9 @@ fetched-brings begun repair index (Some (reply.Gone listing)) archive is = absur
 fetched-brings begun repair index (Some other) archive is = absurd (cc)
 
 -- and what is lost
-module _ (begun : Begun) (past : List Step) (repair : Repair) (brought : AreBrought begun past repair.stamp repair.archives) (index : ℕ) where
+module _ (begun : Begun) (past : List Step) (repair : Repair) (brought : AreBrought begun past repair.stamp repair.archives) (index : ℕ) (others : All (λ (other : ArchiveModel). other.index ≢ index) repair.archives) where
   read-loses : (bytes : List ℕ) (how : Miss) → IsRead begun.cluster begun.place repair index bytes (Loses how) → IsSpoilt begun past repair.stamp index bytes how
-  read-loses bytes (miss.Spoiled (spoil.Foreign foreign.Object)) is = (is.0, is.1, repair.archives, brought, is.2)
+  read-loses bytes (miss.Spoiled (spoil.Foreign foreign.Object)) is = (is.0, as-archive begun repair.stamp index bytes is.0 is.1, repair.archives, brought, others, is.2)
   read-loses bytes (miss.Spoiled other) is = is
   read-loses bytes other is = absurd is
 
@@ -191,12 +196,17 @@ module _ (begun : Begun) (past : List Step) (repair : Repair) (brought : AreBrou
   fetched-loses (Some (reply.Gone listing)) how is = cc
   fetched-loses (Some other) how is = cc
 
+lost-push : (missed : List (Target × Miss)) (one : Target × Miss) → lost_misses (missed ++ one ∷ []) ≡ lost_misses missed ++ (one.0.device, one.1) ∷ []
+lost-push [] one = refl
+lost-push (other ∷ missed) one = ap (λ these. (other.0.device, other.1) ∷ these) (lost-push missed one)
+
 no-fetches : (targets : List Target) (b : Bool) → count_by to_fetch (if b then map Store targets else []) ≡ 0
 no-fetches targets false = refl
 no-fetches [] true = refl
 no-fetches (target ∷ targets) true = omega (arith, no-fetches targets true, sum_by-cons (λ (one : Errand). cond (to_fetch one) 1 0) (Store target) (map Store targets))
 
-module _ (begun : Begun) (past : List Step) (repair : Repair) (due : List Errand) (gathers : Gathers begun past repair due) (ticket : ℕ) (source : Target) (answer : Option Reply) (there : Contains repair.tried source) where
+module _ (begun : Begun) (past : List Step) (repair : Repair) (due : List Errand) (gathers : Gathers begun past repair due) (ticket : ℕ) (source : Target) (answer : Option Reply) (there : Contains repair.tried source)
+    (untold : WasFetched begun past repair.stamp source → ⊥) where
   abbrev msg : Msg
   msg = message.Fetch begun.place repair.stamp source.index
 
@@ -231,7 +241,7 @@ module _ (begun : Begun) (past : List Step) (repair : Repair) (due : List Errand
         device = source.device;
         bytes = brings.0;
         told = subst (λ n. WasTold now source.device (message.Fetch begun.place repair.stamp n) (Some (reply.Fragment brings.0))) (sym asked.index_is) (subst (WasTold now source.device msg) brings.1 told-now);
-        wanted = subst (λ n. IsWanted begun.cluster begun.place repair.stamp n brings.0 archive) (sym asked.index_is) brings.2;
+        is = as-archive begun repair.stamp archive.index brings.0 archive (subst (λ n. IsWanted begun.cluster begun.place repair.stamp n brings.0 archive) (sym asked.index_is) brings.2);
       } in
       let before = brought-later begun past (Told fetched answer) repair.stamp repair.archives gathers.brought in
       let after = brought repair archive in
@@ -241,8 +251,8 @@ module _ (begun : Begun) (past : List Step) (repair : Repair) (due : List Errand
           distinct = all_pairs_push (λ (a b : ArchiveModel). a.index ≢ b.index) repair.archives archive before.distinct (λ n d within. brings.3.new n d within);
         };
         few = omega (arith, brings.3.few, asked.code.0, length-append repair.archives (archive ∷ []));
-        spent = by-source (IsSpent begun now after) (inr (archive, Contains-push repair.archives archive, asked.index_is))
-            (λ other told was. still other (spent-later begun past (Told fetched answer) repair other (gathers.spent other told was)));
+        missed = gathers.missed;
+        spent = by-source (IsSpent gathers.missed after) (inr (archive, Contains-push repair.archives archive, asked.index_is)) (λ other told was. still other (gathers.spent other told was));
         tries = omega (
           arith,
           gathers.tries,
@@ -252,11 +262,12 @@ module _ (begun : Begun) (past : List Step) (repair : Repair) (due : List Errand
         chosen = gathers.chosen;
         lost_tried = gathers.lost_tried;
         free = gathers.free;
-        misses = misses-later begun past (Told fetched answer) repair.stamp repair.misses gathers.misses;
-        asks = asks-later begun past repair due gathers ticket source.device msg answer (λ same. cc);
+        worth = gathers.worth;
+        living = living-brought begun past repair.stamp repair.tried repair.lost repair.archives gathers.living source there untold (Told fetched answer) (answer, told-now) archive (sym asked.index_is);
+        misses = misses-told begun past repair due gathers ticket source.device msg answer (λ same. cc);
       }
     where
-      still : (other : Target) → IsSpent begun now repair other → IsSpent begun now (brought repair archive) other
+      still : (other : Target) → IsSpent gathers.missed repair other → IsSpent gathers.missed (brought repair archive) other
       still other (inl lost) = inl lost
       still other (inr one) = inr (one.0, Contains-append_left repair.archives (archive ∷ []) one.0 one.1, one.2)
 
@@ -264,19 +275,33 @@ module _ (begun : Begun) (past : List Step) (repair : Repair) (due : List Errand
     abbrev without : Repair
     without = lost repair source how
 
-    missed : MissedFetch begun now repair.stamp source how
-    missed = record { later = []; before = past; ticket = ticket; answer = answer; told = refl; missed = fetched-loses begun past repair gathers.brought source.index answer how is }
+    others : All (λ (other : ArchiveModel). other.index ≢ source.index) repair.archives
+    others = others-differ begun past repair.stamp repair.tried repair.lost repair.archives gathers.living source there untold
 
-    still-spent : (other : Target) → IsSpent begun now repair other → IsSpent begun now without other
-    still-spent other (inl one) = inl (one.0, Contains-append_left repair.lost (source ∷ []) other one.1)
+    missed : MissedFetch begun now repair.stamp source how
+    missed = record { later = []; before = past; ticket = ticket; answer = answer; told = refl; missed = fetched-loses begun past repair gathers.brought source.index others answer how is }
+
+    abbrev all_missed : List (Target × Miss)
+    all_missed = gathers.missed ++ (source, how) ∷ []
+
+    still-spent : (other : Target) → IsSpent gathers.missed repair other → IsSpent all_missed without other
+    still-spent other (inl one) = inl ((one.0.0, Contains-append_left gathers.missed ((source, how) ∷ []) (other, one.0.0) one.0.1), Contains-append_left repair.lost (source ∷ []) other one.1)
     still-spent other (inr one) = inr one
 
-    spent-lost : (other : Target) (told : Option Reply) → WasTold now other.device (message.Fetch begun.place repair.stamp other.index) told → IsSpent begun now without other
-    spent-lost = by-source (IsSpent begun now without) (inl ((how, missed), Contains-push repair.lost source))
-        (λ other told was. still-spent other (spent-later begun past (Told fetched answer) repair other (gathers.spent other told was)))
+    spent-lost : (other : Target) (told : Option Reply) → WasTold now other.device (message.Fetch begun.place repair.stamp other.index) told → IsSpent all_missed without other
+    spent-lost = by-source (IsSpent all_missed without) (inl ((how, Contains-push gathers.missed (source, how)), Contains-push repair.lost source)) (λ other told was. still-spent other (gathers.spent other told was))
 
-    misses-lost : All (IsMissOf begun now repair.stamp) without.misses
-    misses-lost = All-push (IsMissOf begun now repair.stamp) repair.misses (source.device, how) (misses-later begun past (Told fetched answer) repair.stamp repair.misses gathers.misses) (inr (source.index, missed))
+    misses-lost : AreMisses begun now repair.stamp all_missed without.misses
+    misses-lost =
+        let before = misses-told begun past repair due gathers ticket source.device msg answer (λ same. cc) in
+        record {
+          asked = before.asked;
+          misses_are = ap (λ these. these ++ (source.device, how) ∷ []) before.misses_are ∙ append_assoc before.asked (lost_misses gathers.missed) ((source.device, how) ∷ [])
+              ∙ ap (λ these. before.asked ++ these) (sym (lost-push gathers.missed (source, how)));
+          asked_are = before.asked_are;
+          all_asked = before.all_asked;
+          lost_are = All-push (λ (one : Target × Miss). MissedFetch begun now repair.stamp one.0 one.1) gathers.missed (source, how) before.lost_are missed;
+        }
 
     lost-more : length without.lost ≡ length repair.lost + 1
     lost-more = length-append repair.lost (source ∷ [])
@@ -284,23 +309,21 @@ module _ (begun : Begun) (past : List Step) (repair : Repair) (due : List Errand
     lost-now : All (Contains repair.tried) without.lost
     lost-now = All-push (Contains repair.tried) repair.lost source gathers.lost_tried there
 
-    asks-lost : (device : ℕ) (why : Miss) → MissedAsk begun now device why → Contains without.misses (device, why)
-    asks-lost device why was =
-        Contains-append_left repair.misses ((source.device, how) ∷ []) (device, why) (asks-later begun past repair due gathers ticket source.device msg answer (λ same. cc) device why was)
-
     -- by the first that is free
     gathers-retried : (found : Option Target) → free_in without ≡ found → Gathers begun now (retried without found) (due ++ due_retried found)
     gathers-retried None none = record {
       brought = brought-later begun past (Told fetched answer) repair.stamp repair.archives gathers.brought;
       few = gathers.few;
+      missed = all_missed;
       spent = spent-lost;
       tries = omega (arith, gathers.tries, none-more begun past repair due gathers ticket source.device msg answer (λ same. cc) [] refl);
       losses = omega (arith, gathers.losses, one-more, lost-more);
       chosen = gathers.chosen;
       lost_tried = lost-now;
       free = λ lacking listed. inl (λ other among. none_passes (is_free without) repair.choices other none among);
+      worth = gathers.worth;
       misses = misses-lost;
-      asks = asks-lost;
+      living = living-lost begun past repair.stamp repair.tried repair.lost repair.archives gathers.living source there untold (Told fetched answer) (answer, told-now);
     }
     gathers-retried (Some first) at =
         let free_one = found-free (is_free without) repair.choices first at in
@@ -308,6 +331,7 @@ module _ (begun : Begun) (past : List Step) (repair : Repair) (due : List Errand
         record {
           brought = brought-later begun past (Told fetched answer) repair.stamp repair.archives gathers.brought;
           few = gathers.few;
+          missed = all_missed;
           spent = spent-lost;
           tries = omega (
             arith,
@@ -323,8 +347,9 @@ module _ (begun : Begun) (past : List Step) (repair : Repair) (due : List Errand
             | inl none ↦ inl (none-left repair.choices repair.tried repair.lost none source there gathers.lost_tried first free_one.0 free_one.1)
             | inr count ↦ inr (omega (arith, count, lost-more, length-append repair.tried (first ∷ [])))
           ];
+          worth = λ other was. gathers.worth source there;
           misses = misses-lost;
-          asks = asks-lost;
+          living = living-retried begun past repair.stamp repair.tried repair.lost repair.archives gathers.living source there untold (Told fetched answer) (answer, told-now) first free_one.1;
         }
 
     pub gathers-lost : Gathers begun now (retried without (free_in without)) (due ++ due_retried (free_in without))

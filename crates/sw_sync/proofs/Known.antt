@@ -1,7 +1,7 @@
 -- What is known at the state of every transcript.
-use Rattle.std.proofs.Common.{◌≡◌, ◌⊎◌, inl, inr, ℕ, ◌&&◌, Bool, true, false, not, Contains, List, [], ◌∷◌, ◌++◌, append-nil, Option, Some, None, refl, sym, ap, subst, ◌∙◌}
+use Rattle.std.proofs.Common.{◌≡◌, ◌≢◌, ◌⊎◌, inl, inr, ℕ, ◌&&◌, Bool, true, false, not, Contains, List, [], ◌∷◌, ◌++◌, append-nil, Option, Some, None, refl, sym, ap, subst, ◌∙◌}
 use Rattle.std.specs.Prelude.{if◌then◌else◌}
-use Rattle.std.specs.List.{find}
+use Rattle.std.specs.List.{AllPairs, find}
 use Rattle.std.proofs.lemmas.Option.{none-some, same_Some}
 use Rattle.sw_types.proofs.Policies.{bounds}
 use Rattle.sw_hashdir.specs.declared.floor.Floor.{Floor}
@@ -22,13 +22,17 @@ use Rattle.sw_sync.specs.declared.stage.Stage.{Stage}
 use Rattle.sw_sync.specs.declared.stage.Stage.TheVariants.{Buries, Ends, Handoffs, Primaries, Repairs}
 use Rattle.sw_sync.specs.declared.sync_end.SyncEnd.{SyncEnd}
 use Rattle.sw_sync.specs.declared.sync_end.SyncEnd.TheVariants.{Done, Newer, Unanswered}
-use Rattle.sw_sync.proofs.Asking.{Asking, IsQuestion, Surveyed, asking-begun, asking-gave, asking-primaries, asking-told, surveyed}
+use Rattle.sw_sync.proofs.Asking.{Asking, IsQuestion, Surveyed, asking-begun, asking-gave, asking-primaries, asking-told, part_small, surveyed}
 use Rattle.sw_sync.proofs.Burying.{Burying, ToBury, burying-begun, burying-gave, burying-told}
 use Rattle.sw_sync.proofs.Ending.{empty-is, over_settled}
 use Rattle.sw_sync.proofs.Errands.{IsFor, does-open, sent_for}
+use Rattle.sw_sync.proofs.Fetched.{repairing-brought, repairing-lost}
+use Rattle.sw_sync.proofs.Firsts.{IsUntold, not-told}
 use Rattle.sw_sync.proofs.Messages.{none-open, opens-each}
 use Rattle.sw_sync.proofs.Plans.{HasNoFloor, IsOvertaken, by_plan}
-use Rattle.sw_sync.proofs.Repairing.{Repairing, ToRepair, repairing-begun, repairing-brought, repairing-committed, repairing-gave, repairing-lost, repairing-stored}
+use Rattle.sw_sync.proofs.Planned.{repairing-begun}
+use Rattle.sw_sync.proofs.Repairing.{Repairing, ToRepair, repairing-gave}
+use Rattle.sw_sync.proofs.Writes.{repairing-committed, repairing-stored}
 
 -- ---- what is known
 
@@ -94,57 +98,62 @@ module _ (begun : Begun) (past : List Step) (sent : Sent) (answer : Option Reply
       subst (λ (one : Stage). Knows begun now one (due ++ more)) (sym is.0) (asked-told heard [] asking more is.1)
 
 -- the tombstone went to a primary
-module _ (begun : Begun) (past : List Step) (sent : Sent) (answer : Option Reply) (burial : Burial) (due : List Errand) (burying : Burying begun past burial due) where
-  buries-told : (errand : Errand) (after : Stage) (more : List Errand) → ToBury begun burying.heard burial.stamp errand → IsFor begun burial.stamp errand sent
+module _ (begun : Begun) (past : List Step) (run : IsRun (IsNext begun) past) (sent : Sent) (answer : Option Reply) (burial : Burial) (due : List Errand) (burying : Burying begun past burial due) where
+  buries-told : (errand : Errand) (after : Stage) (more : List Errand) → IsUntold past errand → ToBury begun burying.heard burial.stamp errand → IsFor begun burial.stamp errand sent
       → Hears begun.cluster begun.place (Buries burial) errand answer after more → Knows begun (Told sent answer ∷ past) after (due ++ more)
-  buries-told (Delete device) after more todo (ticket, bytes, is) hears =
+  buries-told (Delete device) after more untold todo (ticket, bytes, is) hears =
       subst (λ (one : Sent). Knows begun (Told one answer ∷ past) after (due ++ more)) (sym is)
       (subst (λ (one : Stage). Knows begun (Told (sent_for begun burial.stamp ticket bytes (Delete device)) answer ∷ past) one (due ++ more)) (sym hears.0)
       (subst (λ these. Knows begun (Told (sent_for begun burial.stamp ticket bytes (Delete device)) answer ∷ past) (Buries (buried burial device (delete_verdict burial.stamp answer))) (due ++ these)) (sym hears.1)
-      (burying-told begun past burial due burying device ticket answer todo.0)))
-  buries-told (Ask device) after more todo for hears = absurd todo
-  buries-told (Fetch source) after more todo for hears = absurd todo
-  buries-told (Store target) after more todo for hears = absurd todo
-  buries-told (Commit target) after more todo for hears = absurd todo
+      (burying-told begun past burial due burying device ticket answer todo run untold)))
+  buries-told (Ask device) after more untold todo for hears = absurd todo
+  buries-told (Fetch source) after more untold todo for hears = absurd todo
+  buries-told (Store target) after more untold todo for hears = absurd todo
+  buries-told (Commit target) after more untold todo for hears = absurd todo
 
 -- an entry was to be made durable or stored, or an archive was fetched
-module _ (begun : Begun) (past : List Step) (answer : Option Reply) (repair : Repair) (due : List Errand) (repairing : Repairing begun past repair due) where
-  fetch-told : (ticket : ℕ) (source : Target) (meaning : Meaning) → Contains repair.tried source → IsFetched begun.cluster begun.place repair source.index answer meaning
+module _ (begun : Begun) (valid : IsBegun begun) (past : List Step) (run : IsRun (IsNext begun) past) (answer : Option Reply) (repair : Repair) (due : List Errand) (repairing : Repairing begun past repair due) where
+  fetch-told : (ticket : ℕ) (source : Target) (meaning : Meaning) → Contains repair.tried source → IsUntold past (Fetch source) → IsFetched begun.cluster begun.place repair source.index answer meaning
       → Repairing begun (Told (record { ticket = ticket; device = source.device; msg = message.Fetch begun.place repair.stamp source.index }) answer ∷ past) (fetched repair source meaning)
       (due ++ due_fetched begun.cluster.policy.k repair source meaning)
-  fetch-told ticket source (Brings archive) there is = repairing-brought begun past repair due repairing ticket source answer there archive is
-  fetch-told ticket source (Loses how) there is = repairing-lost begun past repair due repairing ticket source answer there how is
+  fetch-told ticket source (Brings archive) there untold is = repairing-brought begun past repair due repairing ticket source answer there untold archive is
+  fetch-told ticket source (Loses how) there untold is = repairing-lost begun past repair due repairing ticket source answer there untold how is
 
   as-told : (sent : Sent) (one after : Repair) (these more : List Errand) → after ≡ one → more ≡ these → Repairing begun (Told sent answer ∷ past) one (due ++ these) → Repairing begun (Told sent answer ∷ past) after (due ++ more)
   as-told sent one after these more same due_is is =
       subst (λ (one : Repair). Repairing begun (Told sent answer ∷ past) one (due ++ more)) (sym same) (subst (λ these. Repairing begun (Told sent answer ∷ past) one (due ++ these)) (sym due_is) is)
 
-  repair-told : (errand : Errand) (ticket : ℕ) (bytes : List ℕ) (after : Repair) (more : List Errand) → ToRepair begun past repairing.heard repair errand → HearsRepair begun.cluster begun.place repair errand answer after more
-      → Repairing begun (Told (sent_for begun repair.stamp ticket bytes errand) answer ∷ past) after (due ++ more)
-  repair-told (Commit target) ticket bytes after more todo hears =
-      as-told (sent_for begun repair.stamp ticket bytes (Commit target)) (committed repair target (commit_verdict repair.stamp answer)) after [] more hears.0 hears.1
-      (repairing-committed begun past repair due repairing ticket target answer todo (is_lacking repair target.index) refl)
-  repair-told (Store target) ticket bytes after more todo hears =
-      let verdict = store_verdict repair.stamp answer in
-      as-told (sent_for begun repair.stamp ticket bytes (Store target)) (stored repair target verdict) after (due_after target verdict) more hears.0 hears.1 (repairing-stored begun past repair due repairing ticket target answer bytes todo.0)
-  repair-told (Fetch source) ticket bytes after more todo hears =
-      as-told (sent_for begun repair.stamp ticket bytes (Fetch source)) (fetched repair source hears.0) after (due_fetched begun.cluster.policy.k repair source hears.0) more hears.2 hears.3 (fetch-told ticket source hears.0 todo hears.1)
-  repair-told (Ask device) ticket bytes after more todo hears = absurd todo
-  repair-told (Delete device) ticket bytes after more todo hears = absurd todo
+  apart : AllPairs (λ a b. a ≢ b) (primaries begun)
+  apart = valid.rules.apart begun.place.part (part_small begun valid)
 
-knows-told : (begun : Begun) (past : List Step) (sent : Sent) (answer : Option Reply) (stage after : Stage) (errand : Errand) (due more : List Errand) → open_at sent.ticket past ≡ Some sent → errand_of sent.device sent.msg ≡ Some errand
+  repair-told : (errand : Errand) (ticket : ℕ) (bytes : List ℕ) (after : Repair) (more : List Errand) → IsUntold past errand → ToRepair begun past repairing.heard repair errand → HearsRepair begun.cluster begun.place repair errand answer after more
+      → Repairing begun (Told (sent_for begun repair.stamp ticket bytes errand) answer ∷ past) after (due ++ more)
+  repair-told (Commit target) ticket bytes after more untold todo hears =
+      as-told (sent_for begun repair.stamp ticket bytes (Commit target)) (committed repair target (commit_verdict repair.stamp answer)) after [] more hears.0 hears.1
+      (repairing-committed begun past repair due repairing apart run ticket target answer todo untold (is_lacking repair target.index) refl)
+  repair-told (Store target) ticket bytes after more untold todo hears =
+      let verdict = store_verdict repair.stamp answer in
+      as-told (sent_for begun repair.stamp ticket bytes (Store target)) (stored repair target verdict) after (due_after target verdict) more hears.0 hears.1 (repairing-stored begun past repair due repairing apart run ticket target answer bytes todo untold)
+  repair-told (Fetch source) ticket bytes after more untold todo hears =
+      as-told (sent_for begun repair.stamp ticket bytes (Fetch source)) (fetched repair source hears.0) after (due_fetched begun.cluster.policy.k repair source hears.0) more hears.2 hears.3 (fetch-told ticket source hears.0 todo untold hears.1)
+  repair-told (Ask device) ticket bytes after more untold todo hears = absurd todo
+  repair-told (Delete device) ticket bytes after more untold todo hears = absurd todo
+
+knows-told : (begun : Begun) (valid : IsBegun begun) (past : List Step) (run : IsRun (IsNext begun) past) (sent : Sent) (answer : Option Reply) (stage after : Stage) (errand : Errand) (due more : List Errand) → open_at sent.ticket past ≡ Some sent → errand_of sent.device sent.msg ≡ Some errand
     → Hears begun.cluster begun.place stage errand answer after more → (ends stage ≡ true → opens past ≡ []) → Knows begun past stage due → Knows begun (Told sent answer ∷ past) after (due ++ more)
-knows-told begun past sent answer (Handoffs heard) after errand due more is_open about hears over knows = handoffs-told begun past sent answer is_open errand about due heard after more knows hears
-knows-told begun past sent answer (Primaries heard) after errand due more is_open about hears over knows = primaries-told begun past sent answer is_open errand about due heard after more knows hears
-knows-told begun past sent answer (Buries burial) after errand due more is_open about hears over knows =
+knows-told begun valid past run sent answer (Handoffs heard) after errand due more is_open about hears over knows = handoffs-told begun past sent answer is_open errand about due heard after more knows hears
+knows-told begun valid past run sent answer (Primaries heard) after errand due more is_open about hears over knows = primaries-told begun past sent answer is_open errand about due heard after more knows hears
+knows-told begun valid past run sent answer (Buries burial) after errand due more is_open about hears over knows =
     let own = does-open begun burial.stamp (ToBury begun knows.heard burial.stamp) past due sent errand knows.does is_open about in
-    buries-told begun past sent answer burial due knows errand after more own.0 own.1 hears
-knows-told begun past sent answer (Repairs repair) after errand due more is_open about hears over knows =
+    let untold = not-told begun burial.stamp (ToBury begun knows.heard burial.stamp) past due knows.once run sent errand is_open about own.0 in
+    buries-told begun past run sent answer burial due knows errand after more untold own.0 own.1 hears
+knows-told begun valid past run sent answer (Repairs repair) after errand due more is_open about hears over knows =
     let own = does-open begun repair.stamp (ToRepair begun past knows.heard repair) past due sent errand knows.does is_open about in
+    let untold = not-told begun repair.stamp (ToRepair begun past knows.heard repair) past due knows.once run sent errand is_open about own.0 in
     subst (λ (one : Sent). Knows begun (Told one answer ∷ past) after (due ++ more)) (sym own.1.2)
     (subst (λ (one : Stage). Knows begun (Told (sent_for begun repair.stamp own.1.0 own.1.1 errand) answer ∷ past) one (due ++ more)) (sym hears.2)
-    (repair-told begun past answer repair due knows errand own.1.0 own.1.1 hears.0 more own.0 hears.1))
-knows-told begun past sent answer (Ends end) after errand due more is_open about hears over knows =
+    (repair-told begun valid past run answer repair due knows errand own.1.0 own.1.1 hears.0 more untold own.0 hears.1))
+knows-told begun valid past run sent answer (Ends end) after errand due more is_open about hears over knows =
     absurd (none-some sent (ap (find (has_ticket sent.ticket)) (sym (over refl)) ∙ is_open))
 
 -- ---- what follows once nothing is due and nothing is open
@@ -162,7 +171,7 @@ module _ (begun : Begun) (valid : IsBegun begun) (past : List Step) (run : IsRun
   planned-knows heard asking =
       let surveyed_now = surveyed begun valid past run heard none asking in
       by_plan begun heard (KnowsState begun past)
-      (λ stamp own. closed-knows (burial_of (primaries begun) heard stamp) _ refl (burying-begun begun past heard stamp run none asking.questions surveyed_now own) (λ knows. inr (inl (_, knows, refl))))
+      (λ stamp own. closed-knows (burial_of (primaries begun) heard stamp) _ refl (burying-begun begun past heard stamp (valid.rules.apart begun.place.part (part_small begun valid)) run none asking.questions surveyed_now own) (λ knows. inr (inl (_, knows, refl))))
       (λ stamp own. closed-knows (repair_of k (total begun) (primaries begun) heard stamp) _ refl
       (repairing-begun begun past run none asking.questions heard surveyed_now stamp (bounds begun.cluster.policy valid.rules.policy).some_data own) (λ knows. inr (inr (_, knows, refl))))
       (λ own. inl (heard, surveyed_now, inl (own, refl)))
@@ -170,7 +179,7 @@ module _ (begun : Begun) (valid : IsBegun begun) (past : List Step) (run : IsRun
       (λ best newer. inl (heard, surveyed_now, inr (inr (best, newer, refl))))
 
   advanced-knows : (stage : Stage) → Knows begun past stage [] → KnowsState begun past (advanced begun stage)
-  advanced-knows (Handoffs heard) knows = asking-primaries begun past heard knows
+  advanced-knows (Handoffs heard) knows = asking-primaries begun past run none heard knows
   advanced-knows (Primaries heard) knows = planned-knows heard knows
   advanced-knows (Buries burial) knows = inr (inl (burial, knows, refl))
   advanced-knows (Repairs repair) knows = inr (inr (repair, knows, refl))
@@ -199,4 +208,4 @@ module _ (begun : Begun) (valid : IsBegun begun) where
       subst (KnowsState begun (Told sent answer ∷ past)) (sym is.4)
       (settled-by (Told sent answer ∷ past) run is.2 (is_waiting (Told sent answer ∷ past)) (is_empty is.2.due) refl refl
       (subst (KnowsState begun (Told sent answer ∷ past)) (sym takes.after_is)
-      (knows-told begun past sent answer is.0.stage takes.stage takes.errand is.0.due takes.more run.0 takes.about takes.hears (λ so. none-open past (over so).0) (known past run.1 is.0 is.1))))
+      (knows-told begun valid past run.1 sent answer is.0.stage takes.stage takes.errand is.0.due takes.more run.0 takes.about takes.hears (λ so. none-open past (over so).0) (known past run.1 is.0 is.1))))

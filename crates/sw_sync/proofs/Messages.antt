@@ -1,7 +1,7 @@
 -- The messages of a transcript: each that was handed out is open or was told.
-use Rattle.std.proofs.Common.{◌≡◌, ◌⊎◌, inl, inr, ℕ, ◌≤◌, ◌==◌, Bool, false, not, Contains, List, [], ◌∷◌, get_or, Option, Some, refl, sym, ap, subst, ◌∙◌, arith}
+use Rattle.std.proofs.Common.{◌≡◌, ◌⊎◌, inl, inr, ℕ, ◌≤◌, ◌==◌, Bool, true, false, not, Contains, List, [], ◌∷◌, get_or, Option, Some, refl, sym, ap, subst, ◌∙◌, arith}
 use Rattle.std.specs.List.{All, AllPairs, count_by, find}
-use Rattle.std.proofs.lemmas.Bool.{cases_Bool, cases_order, eq-eqb, eqb-true}
+use Rattle.std.proofs.lemmas.Bool.{cases_Bool, cases_order, eqb-true}
 use Rattle.std.proofs.lemmas.List.{get_or_default}
 use Rattle.std.proofs.lemmas.List.Elements.{All-contains, All-cons, All-filter, All-head, All-nil, All-tail}
 use Rattle.std.proofs.lemmas.List.Sums.{sum_by-cons}
@@ -14,7 +14,7 @@ use Rattle.sw_message.specs.declared.sent.Sent.{Sent}
 use Rattle.sw_quorum.specs.Places.{counted-among, one_if}
 use Rattle.sw_quorum.specs.Transcripts.{HasOther, Numbers, closed, found, has_ticket, numbered}
 use Rattle.sw_gather.proofs.Lists.{first_or_later, here, in_filter, none_in}
-use Rattle.sw_sync.specs.Causes.{WasTold}
+use Rattle.sw_sync.specs.Answers.{WasTold}
 use Rattle.sw_sync.specs.Sync.{Begun, IsNext}
 
 pub numbers : (begun : Begun) → Numbers (IsNext begun)
@@ -73,15 +73,12 @@ answered-closed (Told other told ∷ past) sent answer is = elim (first_or_later
   | inr before ↦ Contains-cons sent other (closed past) (answered-closed past sent answer before)
 ]
 
--- a message to a device that was answered at most once has one answer
 abbrev pub to : ℕ → Sent → Bool
 to device sent = sent.device == device
 
-module _ (device : ℕ) where
-  counts : (sent : Sent) → sent.device ≡ device → one_if (to device sent) ≡ 1
-  counts sent is = ap one_if (eq-eqb sent.device device is)
-
-  pub told-once : (past : List Step) → count_by (to device) (closed past) ≤ 1 → (a b : Sent) (x y : Option Reply) → a.device ≡ device → b.device ≡ device
+-- where at most one message that passes a test was answered, it has one answer
+module _ (test : Sent → Bool) where
+  pub told-once : (past : List Step) → count_by test (closed past) ≤ 1 → (a b : Sent) (x y : Option Reply) → test a ≡ true → test b ≡ true
       → Contains past (Told a x) → Contains past (Told b y) → x ≡ y
   told-once [] few a b x y at bt first second = absurd (none_in (Told a x) first)
   told-once (Gave sent ∷ past) few a b x y at bt first second =
@@ -90,18 +87,18 @@ module _ (device : ℕ) where
         | inr one ↦ elim (first_or_later (Gave sent) past (Told b y) second) [ inl same ↦ absurd (cc) | inr other ↦ told-once past few a b x y at bt one other ]
       ]
   told-once (Told sent answer ∷ past) few a b x y at bt first second =
-      let split = sum_by-cons (λ (one : Sent). cond (to device one) 1 0) sent (closed past) in
+      let split = sum_by-cons (λ (one : Sent). cond (test one) 1 0) sent (closed past) in
       elim (first_or_later (Told sent answer) past (Told a x) first) [
         | inl same ↦ elim (first_or_later (Told sent answer) past (Told b y) second) [
           | inl too ↦ let one : answer ≡ x = cc in let other : answer ≡ y = cc in sym one ∙ other
           | inr other ↦
               let this : sent ≡ a = cc in
-              absurd (omega (arith, few, split, counts sent (ap (λ (one : Sent). one.device) this ∙ at), counted-among (to device) (closed past) b (eq-eqb b.device device bt) (answered-closed past b y other)))
+              absurd (omega (arith, few, split, ap one_if (ap test this ∙ at), counted-among test (closed past) b bt (answered-closed past b y other)))
         ]
         | inr one ↦ elim (first_or_later (Told sent answer) past (Told b y) second) [
           | inl too ↦
               let this : sent ≡ b = cc in
-              absurd (omega (arith, few, split, counts sent (ap (λ (one : Sent). one.device) this ∙ bt), counted-among (to device) (closed past) a (eq-eqb a.device device at) (answered-closed past a x one)))
+              absurd (omega (arith, few, split, ap one_if (ap test this ∙ bt), counted-among test (closed past) a at (answered-closed past a x one)))
           | inr other ↦ told-once past (omega (arith, few, split)) a b x y at bt one other
         ]
       ]

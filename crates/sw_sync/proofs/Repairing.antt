@@ -1,45 +1,36 @@
 -- Entries are made durable at primaries, and rebuilt at those that lack theirs.
-use Rattle.std.proofs.Common.{◌≡◌, ◌⊎◌, inl, inr, ℕ, ◌≤◌, ◌==◌, ◌||◌, Bool, true, false, not, cond, Contains, List, [], ◌∷◌, ◌++◌, length, map, take, Option, Some, None, refl, sym, ap, subst, ◌∙◌, arith}
-use Rattle.std.specs.Prelude.{if◌then◌else◌, min, nat_lt, slice_get}
-use Rattle.std.specs.List.{All, count_by, filter}
-use Rattle.std.proofs.lemmas.Bool.{eq-eqb, eqb-true, le-ltb}
-use Rattle.std.proofs.lemmas.List.{length-take-le}
-use Rattle.std.proofs.lemmas.List.Elements.{All-append, All-cons, All-contains_itself, All-head, All-tail, All-map, All-nil, All-take, All-weaker, Contains-append_left, Contains-append_right, Contains-push, Contains-push_cases}
-use Rattle.std.proofs.lemmas.List.Sums.{sum_by-append, sum_by-cons}
+use Rattle.std.proofs.Common.{◌≡◌, ◌⊎◌, inl, inr, ℕ, true, not, Contains, List, [], ◌∷◌, length, Option, Some, subst}
+use Rattle.std.specs.Prelude.{min, slice_get}
+use Rattle.std.specs.List.{All, filter}
+use Rattle.std.proofs.lemmas.List.Elements.{All-head}
 use Rattle.std.proofs.lemmas.Option.{get_or_from_slice_get, slice_get_within}
-use Rattle.sw_archive.specs.Archive.{ArchiveModel}
+use Rattle.sw_ring.proofs.Among.{among-from_Contains}
 use Rattle.sw_message.specs.Floors.{durable_at}
-use Rattle.sw_message.specs.Transcript.{Gave, IsRun, Step, Told, given, opens}
-use Rattle.sw_message.specs.declared.message.Msg.{Msg}
+use Rattle.sw_message.specs.Message.{is_primary}
+use Rattle.sw_message.specs.Transcript.{Gave, Step, Told}
 use Rattle.sw_message.specs.declared.message.Msg.TheVariants as message
-use Rattle.sw_message.specs.declared.miss.Miss.{Miss}
 use Rattle.sw_message.specs.declared.reply.Reply.{Reply}
 use Rattle.sw_message.specs.declared.reply.Reply.TheVariants as reply
 use Rattle.sw_message.specs.declared.sent.Sent.{Sent}
 use Rattle.sw_message.specs.declared.target.Target.{Target}
 use Rattle.sw_quorum.specs.Targets.{targets_from}
-use Rattle.sw_quorum.specs.Transcripts.{closed}
-use Rattle.sw_quorum.specs.Verdicts.{commit_verdict, store_verdict}
-use Rattle.sw_quorum.specs.declared.verdict.Verdict.{Verdict}
-use Rattle.sw_quorum.specs.declared.verdict.Verdict.TheVariants as verdict
 use Rattle.sw_gather.specs.Choices.{choices_in, firsts}
-use Rattle.sw_gather.proofs.Lists.{from_filter, here, in_filter, in_map}
-use Rattle.sw_gather.proofs.Sources.{firsts-kept}
-use Rattle.sw_sync.specs.Causes.{AreFailures, IsMissOf, WasBrought, MissedAsk, WasTold, capped, count_told, is_committed}
+use Rattle.sw_gather.proofs.Lists.{from_filter}
+use Rattle.sw_sync.specs.Answers.{WasTold}
+use Rattle.sw_sync.specs.Causes.{AreFailures, capped, count_told, is_committed}
 use Rattle.sw_sync.specs.Parts.{Heard, Repair}
-use Rattle.sw_sync.specs.Sync.{Begun, Brings, IsFetched, IsMessage, IsNext, Loses, brought, committed_as, counted, due_after, failed_by, due_brought, due_retried, first_tried, free_in, is_empty, is_lacking, lost, primaries, repair_with, retried, shows_none, shows_plain, stored, total}
+use Rattle.sw_sync.specs.Sync.{Begun, IsMessage, is_lacking, primaries, shows_none, shows_plain, stored, total}
 use Rattle.sw_sync.specs.declared.errand.Errand.{Errand}
 use Rattle.sw_sync.specs.declared.errand.Errand.TheVariants.{Ask, Commit, Delete, Fetch, Store}
 use Rattle.sw_sync.specs.declared.stage.Stage.TheVariants.{Repairs}
-use Rattle.sw_sync.proofs.Asking.{IsQuestion, Surveyed, surveyed-later}
-use Rattle.sw_sync.proofs.Burying.{failures-begun, none-counted, was-asked}
-use Rattle.sw_sync.proofs.Errands.{Does, IsFor, does-begun, does-gave, does-told, sent-is}
-use Rattle.sw_sync.proofs.Failures.{committed-is, counted-more, counted-same, committed-not, stored-done, failures-fetched, failures-gave, failures-told, judged-commit, judged-store}
-use Rattle.sw_sync.proofs.Gathers.{Gathers, fetched-brings, gathers-brought, gathers-gave, gathers-lost, gathers-other, fetches, is_fetch, to_fetch}
-use Rattle.sw_sync.proofs.Messages.{closed-each, told-cases, told-gave, told-later}
+use Rattle.sw_sync.proofs.Asking.{Surveyed, surveyed-later}
+use Rattle.sw_sync.proofs.Errands.{Does, IsFor, does-gave, sent-is}
+use Rattle.sw_sync.proofs.Failures.{failures-gave}
+use Rattle.sw_sync.proofs.Firsts.{Once, once-gave}
+use Rattle.sw_sync.proofs.Gathers.{Gathers, gathers-gave}
+use Rattle.sw_sync.proofs.Messages.{told-cases, told-gave, told-later}
 use Rattle.sw_sync.proofs.Plans.{OwnFloor}
 use Rattle.sw_sync.proofs.Shows.{is-primary}
-use Rattle.sw_sync.proofs.Surveys.{no-question}
 
 -- ---- what is to be done
 
@@ -62,6 +53,7 @@ pub record Repairing (begun : Begun) (past : List Step) (repair : Repair) (due :
   pub choices : repair.choices ≡ choices_in (total begun) repair.stamp heard.lists
   pub listed : repair.listed ≡ min (length (firsts repair.choices)) begun.cluster.policy.k
   pub does : Does begun repair.stamp (ToRepair begun past heard repair) past due
+  pub once : Once begun repair.stamp (ToRepair begun past heard repair) past due
   pub commits : repair.commits ≡ capped (count_told (is_committed (λ index. not (is_lacking repair index))) past)
   pub rebuilt : repair.rebuilt ≡ capped (count_told (is_committed (is_lacking repair)) past)
   pub failures : AreFailures begun past repair.failed
@@ -85,6 +77,9 @@ primary-there begun target there = at-number (primaries begun) target.index targ
     at-number : (devices : List ℕ) (n device : ℕ) → slice_get devices n ≡ Some device → Contains devices device
     at-number devices n device at = (n, slice_get_within devices n device at, get_or_from_slice_get devices n device device at)
 
+pub device-primary : (begun : Begun) (target : Target) → Contains (targets_from 0 (primaries begun)) target → is_primary begun.cluster target.device begun.place ≡ true
+device-primary begun target there = among-from_Contains (primaries begun) target.device (primary-there begun target there)
+
 -- ---- what was stored stays stored
 
 module _ (begun : Begun) (past : List Step) (step : Step) (stamp : ℕ) (target : Target) where
@@ -93,7 +88,7 @@ module _ (begun : Begun) (past : List Step) (step : Step) (stamp : ℕ) (target 
 
 -- where no other archive of it is stored by a step, what is to be done stays the same
 module _ (begun : Begun) (past : List Step) (step : Step) (heard : Heard) (repair : Repair) where
-  repair-later : (errand : Errand) → ToRepair begun past heard repair errand → ToRepair begun (step ∷ past) heard repair errand
+  pub repair-later : (errand : Errand) → ToRepair begun past heard repair errand → ToRepair begun (step ∷ past) heard repair errand
   repair-later (Commit target) (inl plain) = inl plain
   repair-later (Commit target) (inr (lacking, was)) = inr (lacking, stored-later begun past step repair.stamp target was)
   repair-later (Store target) is = is
@@ -101,13 +96,22 @@ module _ (begun : Begun) (past : List Step) (step : Step) (heard : Heard) (repai
   repair-later (Ask device) is = is
   repair-later (Delete device) is = is
 
-  repair-before : ((target : Target) → IsStored begun (step ∷ past) repair.stamp target → IsStored begun past repair.stamp target) → (errand : Errand) → ToRepair begun (step ∷ past) heard repair errand → ToRepair begun past heard repair errand
+  pub repair-before : ((target : Target) → IsStored begun (step ∷ past) repair.stamp target → IsStored begun past repair.stamp target) → (errand : Errand) → ToRepair begun (step ∷ past) heard repair errand → ToRepair begun past heard repair errand
   repair-before before (Commit target) (inl plain) = inl plain
   repair-before before (Commit target) (inr (lacking, was)) = inr (lacking, before target was)
   repair-before before (Store target) is = is
   repair-before before (Fetch source) is = is
   repair-before before (Ask device) is = is
   repair-before before (Delete device) is = is
+
+-- an answer that stores nothing
+module _ (begun : Begun) (past : List Step) (repair : Repair) (sent : Sent) (answer : Option Reply) where
+  pub stored-before : ((bytes : List ℕ) (target : Target) → sent.msg ≡ message.PutFrag begun.place repair.stamp target.index bytes → answer ≡ Some reply.Synced → ⊥) → (target : Target)
+      → IsStored begun (Told sent answer ∷ past) repair.stamp target → IsStored begun past repair.stamp target
+  stored-before none target (bytes, was) = elim (told-cases past sent answer target.device (message.PutFrag begun.place repair.stamp target.index bytes) (Some reply.Synced) was) [
+    | inl this ↦ absurd (none bytes target this.1 this.2)
+    | inr before ↦ (bytes, before)
+  ]
 
 -- ---- a message is handed out
 
@@ -135,368 +139,12 @@ module _ (begun : Begun) (past : List Step) (repair : Repair) (due : List Errand
         does = does-gave begun repair.stamp (Todo past) (Todo (Gave sent ∷ past)) past due repairing.does (repair-later begun past (Gave sent) repairing.heard repair) errand later sent first for
             (repair-before begun past (Gave sent) repairing.heard repair
             (λ target was. (was.0, told-gave past sent target.device (message.PutFrag begun.place repair.stamp target.index was.0) (Some reply.Synced) was.1)));
+        once = once-gave begun repair.stamp (Todo past) (Todo (Gave sent ∷ past)) past due repairing.once (repair-later begun past (Gave sent) repairing.heard repair) errand later sent first for
+            (All-head (Todo past) errand later (subst (All (Todo past)) first repairing.does.sought))
+            (repair-before begun past (Gave sent) repairing.heard repair
+            (λ target was. (was.0, told-gave past sent target.device (message.PutFrag begun.place repair.stamp target.index was.0) (Some reply.Synced) was.1)));
         commits = repairing.commits;
         rebuilt = repairing.rebuilt;
         failures = failures-gave begun past sent repair.failed repairing.failures;
         gathers = gathers-gave begun past repair errand later sent for (subst (Gathers begun past repair) first repairing.gathers);
       }
-
-  -- ---- an answer
-
-  module _ (sent : Sent) (answer : Option Reply) where
-    abbrev now : List Step
-    now = Told sent answer ∷ past
-
-    -- an answer that stores nothing
-    stored-before : ((bytes : List ℕ) (target : Target) → sent.msg ≡ message.PutFrag begun.place repair.stamp target.index bytes → answer ≡ Some reply.Synced → ⊥) → (target : Target) → IsStored begun now repair.stamp target
-        → IsStored begun past repair.stamp target
-    stored-before none target (bytes, was) = elim (told-cases past sent answer target.device (message.PutFrag begun.place repair.stamp target.index bytes) (Some reply.Synced) was) [
-      | inl this ↦ absurd (none bytes target this.1 this.2)
-      | inr before ↦ (bytes, before)
-    ]
-
-  module _ (ticket : ℕ) (target : Target) (answer : Option Reply) where
-    -- an entry was to be made durable
-    module _ (todo : Todo past (Commit target)) where
-      abbrev asked : Sent
-      asked = record { ticket = ticket; device = target.device; msg = message.Commit begun.place repair.stamp target.index }
-
-      abbrev verdict_is : Verdict
-      verdict_is = commit_verdict repair.stamp answer
-
-      none-stored : (one : Target) → IsStored begun (now asked answer) repair.stamp one → IsStored begun past repair.stamp one
-      none-stored = stored-before asked answer (λ bytes one same synced. cc)
-
-      commit-does : Does begun repair.stamp (Todo (now asked answer)) (now asked answer) (due ++ [])
-      commit-does = does-told begun repair.stamp (Todo past) (Todo (now asked answer)) past due repairing.does (repair-later begun past (Told asked answer) repairing.heard repair) asked answer []
-          (All-nil (Todo (now asked answer))) (λ one is. inl (repair-before begun past (Told asked answer) repairing.heard repair none-stored one is))
-
-      commit-failures : AreFailures begun (now asked answer) (repair.failed ++ failed_by target.device verdict_is)
-      commit-failures = failures-told begun past ticket target.device asked.msg answer repair.failed repairing.failures (λ same. cc) verdict_is (judged-commit begun.place repair.stamp target.index answer)
-          (primary-there begun target (commit-target begun past repair due repairing target todo))
-
-      pub repairing-committed : (b : Bool) → is_lacking repair target.index ≡ b → Repairing begun (now asked answer) (committed_as b repair target.device verdict_is) (due ++ [])
-      repairing-committed true is = record {
-        heard = repairing.heard;
-        surveyed = surveyed-later begun past (Told asked answer) repairing.heard (no-question begun asked answer (λ same. cc)) repairing.surveyed;
-        own = repairing.own;
-        lacking = repairing.lacking;
-        choices = repairing.choices;
-        listed = repairing.listed;
-        does = commit-does;
-        commits = counted-same repair.commits (count_told (is_committed (λ index. not (is_lacking repair index))) past) (is_committed (λ index. not (is_lacking repair index)) asked.msg answer) repairing.commits
-            (committed-not (λ index. not (is_lacking repair index)) begun.place repair.stamp target.index answer (ap not is));
-        rebuilt = counted-more repair.rebuilt (count_told (is_committed (is_lacking repair)) past) verdict_is (is_committed (is_lacking repair) asked.msg answer) repairing.rebuilt
-            (committed-is (is_lacking repair) begun.place repair.stamp target.index answer is);
-        failures = commit-failures;
-        gathers = gathers-other begun past repair due repairing.gathers ticket target.device asked.msg answer (λ same. cc) [] repair.commits (counted repair.rebuilt verdict_is) (repair.failed ++ failed_by target.device verdict_is) refl refl;
-      }
-      repairing-committed false is = record {
-        heard = repairing.heard;
-        surveyed = surveyed-later begun past (Told asked answer) repairing.heard (no-question begun asked answer (λ same. cc)) repairing.surveyed;
-        own = repairing.own;
-        lacking = repairing.lacking;
-        choices = repairing.choices;
-        listed = repairing.listed;
-        does = commit-does;
-        commits = counted-more repair.commits (count_told (is_committed (λ index. not (is_lacking repair index))) past) verdict_is (is_committed (λ index. not (is_lacking repair index)) asked.msg answer) repairing.commits
-            (committed-is (λ index. not (is_lacking repair index)) begun.place repair.stamp target.index answer (ap not is));
-        rebuilt = counted-same repair.rebuilt (count_told (is_committed (is_lacking repair)) past) (is_committed (is_lacking repair) asked.msg answer) repairing.rebuilt
-            (committed-not (is_lacking repair) begun.place repair.stamp target.index answer is);
-        failures = commit-failures;
-        gathers = gathers-other begun past repair due repairing.gathers ticket target.device asked.msg answer (λ same. cc) [] (counted repair.commits verdict_is) repair.rebuilt (repair.failed ++ failed_by target.device verdict_is) refl refl;
-      }
-
-    -- a rebuilt archive was sent
-    module _ (bytes : List ℕ) (there : Contains repair.lacking target) where
-      abbrev put : Sent
-      put = record { ticket = ticket; device = target.device; msg = message.PutFrag begun.place repair.stamp target.index bytes }
-
-      abbrev means : Verdict
-      means = store_verdict repair.stamp answer
-
-      -- it was stored just where that is done
-      more-due : (one : Verdict) → means ≡ one → All (Todo (now put answer)) (due_after target one)
-      more-due verdict.Done is =
-          All-cons (Todo (now put answer)) (Commit target) [] (inr (there, (bytes, (ticket, subst (λ (told : Option Reply). Contains (now put answer) (Told put told)) (stored-done repair.stamp answer is) (here (Told put answer) past)))))
-          (All-nil (Todo (now put answer)))
-      more-due (verdict.Forbidden floor) is = All-nil (Todo (now put answer))
-      more-due (verdict.Missed how) is = All-nil (Todo (now put answer))
-
-      new-due : (one : Target) → IsStored begun (now put answer) repair.stamp one → IsStored begun past repair.stamp one ⊎ Contains (due_after target means) (Commit one)
-      new-due one (other, was) = elim (told-cases past put answer one.device (message.PutFrag begun.place repair.stamp one.index other) (Some reply.Synced) was) [
-        | inr before ↦ inl (other, before)
-        | inl this ↦
-            let indices : target.index ≡ one.index = cc (this.1) in
-            let same : target ≡ one = ap (λ n. record { index = n; device = target.device }) indices ∙ ap (λ n. record { index = one.index; device = n }) this.0 in
-            let done : means ≡ verdict.Done = ap (store_verdict repair.stamp) this.2 in
-            inr (subst (λ (means : Verdict). Contains (due_after target means) (Commit one)) (sym done) (subst (λ (other : Target). Contains (Commit target ∷ []) (Commit other)) same (here (Commit target) [])))
-      ]
-
-      by-due : (errand : Errand) → Todo (now put answer) errand → Todo past errand ⊎ Contains (due_after target means) errand
-      by-due (Commit one) (inl plain) = inl (inl plain)
-      by-due (Commit one) (inr (lacking, was)) = elim (new-due one was) [ inl before ↦ inl (inr (lacking, before)) | inr due ↦ inr due ]
-      by-due (Store one) is = inl is
-      by-due (Fetch source) is = inl is
-      by-due (Ask device) is = inl is
-      by-due (Delete device) is = inl is
-
-      no-fetches : (means : Verdict) → count_by to_fetch (due_after target means) ≡ 0
-      no-fetches verdict.Done = refl
-      no-fetches (verdict.Forbidden floor) = refl
-      no-fetches (verdict.Missed how) = refl
-
-      pub repairing-stored : Repairing begun (now put answer) (stored repair target means) (due ++ due_after target means)
-      repairing-stored = record {
-        heard = repairing.heard;
-        surveyed = surveyed-later begun past (Told put answer) repairing.heard (no-question begun put answer (λ same. cc)) repairing.surveyed;
-        own = repairing.own;
-        lacking = repairing.lacking;
-        choices = repairing.choices;
-        listed = repairing.listed;
-        does = does-told begun repair.stamp (Todo past) (Todo (now put answer)) past due repairing.does (repair-later begun past (Told put answer) repairing.heard repair) put answer (due_after target means)
-            (more-due means refl) by-due;
-        commits = repairing.commits ∙ ap {A = ℕ} capped (omega arith);
-        rebuilt = repairing.rebuilt ∙ ap {A = ℕ} capped (omega arith);
-        failures = failures-told begun past ticket target.device put.msg answer repair.failed repairing.failures (λ same. cc) means (judged-store begun.place repair.stamp target.index bytes answer)
-            (primary-there begun target (lacking-target begun past repair due repairing target there).0);
-        gathers = gathers-other begun past repair due repairing.gathers ticket target.device put.msg answer (λ same. cc) (due_after target means) repair.commits repair.rebuilt (repair.failed ++ failed_by target.device means) refl
-            (no-fetches means);
-      }
-
-  -- an archive was fetched
-  module _ (ticket : ℕ) (source : Target) (answer : Option Reply) (there : Contains repair.tried source) where
-    abbrev fetch : Sent
-    fetch = record { ticket = ticket; device = source.device; msg = message.Fetch begun.place repair.stamp source.index }
-
-    abbrev then_on : List Step
-    then_on = now fetch answer
-
-    nothing-stored : (one : Target) → IsStored begun then_on repair.stamp one → IsStored begun past repair.stamp one
-    nothing-stored = stored-before fetch answer (λ bytes one same synced. cc)
-
-    fetch-failures : AreFailures begun then_on repair.failed
-    fetch-failures = failures-fetched begun past ticket source.device fetch.msg answer repair.failed repairing.failures (λ same. cc) (λ how is. is) (λ floor is. is)
-
-    fetch-surveyed : Surveyed begun then_on repairing.heard
-    fetch-surveyed = surveyed-later begun past (Told fetch answer) repairing.heard (no-question begun fetch answer (λ same. cc)) repairing.surveyed
-
-    module _ (archive : ArchiveModel) (is : IsFetched begun.cluster begun.place repair source.index answer (Brings archive)) where
-      abbrev with_it : Repair
-      with_it = brought repair archive
-
-      abbrev After : Errand → Type 0
-      After = ToRepair begun then_on repairing.heard with_it
-
-      fewer : length repair.archives ≡ begun.cluster.policy.k → ⊥
-      fewer enough = let brings = fetched-brings begun repair source.index answer archive is in let code = brings.2.1.code.0 in omega (arith, enough, code, brings.3.few)
-
-      brought-keeps : (errand : Errand) → Todo past errand → After errand
-      brought-keeps (Commit target) todo = repair-later begun past (Told fetch answer) repairing.heard repair (Commit target) todo
-      brought-keeps (Store target) todo = absurd (fewer todo.1)
-      brought-keeps (Fetch other) todo = todo
-      brought-keeps (Ask device) todo = todo
-      brought-keeps (Delete device) todo = todo
-
-      abbrev due_by : Bool → List Errand
-      due_by enough = if enough then map Store repair.lacking else []
-
-      stores-due : (b : Bool) → (length with_it.archives == begun.cluster.policy.k) ≡ b → All After (due_by b)
-      stores-due false count = All-nil After
-      stores-due true count =
-          All-map After Store repair.lacking
-          (All-weaker (Contains repair.lacking) (λ (target : Target). After (Store target)) (λ target lacks. (lacks, eqb-true (length with_it.archives) begun.cluster.policy.k count)) repair.lacking (All-contains_itself repair.lacking))
-
-      brought-back : (errand : Errand) → After errand → Todo past errand ⊎ Contains (due_by (length with_it.archives == begun.cluster.policy.k)) errand
-      brought-back (Commit target) todo = inl (repair-before begun past (Told fetch answer) repairing.heard repair nothing-stored (Commit target) todo)
-      brought-back (Store target) todo =
-          inr (subst (λ b. Contains (due_by b) (Store target)) (sym (eq-eqb (length with_it.archives) begun.cluster.policy.k todo.1)) (in_map Store repair.lacking target todo.0))
-      brought-back (Fetch other) todo = inl todo
-      brought-back (Ask device) todo = inl todo
-      brought-back (Delete device) todo = inl todo
-
-      pub repairing-brought : Repairing begun then_on with_it (due ++ due_brought begun.cluster.policy.k with_it)
-      repairing-brought = record {
-        heard = repairing.heard;
-        surveyed = fetch-surveyed;
-        own = repairing.own;
-        lacking = repairing.lacking;
-        choices = repairing.choices;
-        listed = repairing.listed;
-        does = does-told begun repair.stamp (Todo past) After past due repairing.does brought-keeps fetch answer (due_brought begun.cluster.policy.k with_it) (stores-due (length with_it.archives == begun.cluster.policy.k) refl)
-            brought-back;
-        commits = repairing.commits ∙ ap {A = ℕ} capped (omega arith);
-        rebuilt = repairing.rebuilt ∙ ap {A = ℕ} capped (omega arith);
-        failures = fetch-failures;
-        gathers = gathers-brought begun past repair due repairing.gathers ticket source answer there archive is;
-      }
-
-    module _ (how : Miss) (is : IsFetched begun.cluster begun.place repair source.index answer (Loses how)) where
-      abbrev without : Repair
-      without = lost repair source how
-
-      retried-keeps : (found : Option Target) (errand : Errand) → Todo past errand → ToRepair begun then_on repairing.heard (retried without found) errand
-      retried-keeps None errand todo = repair-later begun past (Told fetch answer) repairing.heard repair errand todo
-      retried-keeps (Some first) (Commit target) todo = repair-later begun past (Told fetch answer) repairing.heard repair (Commit target) todo
-      retried-keeps (Some first) (Store target) todo = todo
-      retried-keeps (Some first) (Fetch other) todo = Contains-append_left repair.tried (first ∷ []) other todo
-      retried-keeps (Some first) (Ask device) todo = todo
-      retried-keeps (Some first) (Delete device) todo = todo
-
-      retried-due : (found : Option Target) → All (ToRepair begun then_on repairing.heard (retried without found)) (due_retried found)
-      retried-due None = All-nil (ToRepair begun then_on repairing.heard without)
-      retried-due (Some first) =
-          All-cons (ToRepair begun then_on repairing.heard (retried without (Some first))) (Fetch first) [] (Contains-push repair.tried first) (All-nil (ToRepair begun then_on repairing.heard (retried without (Some first))))
-
-      retried-back : (found : Option Target) (errand : Errand) → ToRepair begun then_on repairing.heard (retried without found) errand → Todo past errand ⊎ Contains (due_retried found) errand
-      retried-back None errand todo = inl (repair-before begun past (Told fetch answer) repairing.heard repair nothing-stored errand todo)
-      retried-back (Some first) (Commit target) todo = inl (repair-before begun past (Told fetch answer) repairing.heard repair nothing-stored (Commit target) todo)
-      retried-back (Some first) (Store target) todo = inl todo
-      retried-back (Some first) (Fetch other) todo = elim (Contains-push_cases repair.tried first other todo) [
-        | inl before ↦ inl before
-        | inr same ↦ inr (subst (λ (one : Target). Contains (Fetch first ∷ []) (Fetch one)) same (here (Fetch first) []))
-      ]
-      retried-back (Some first) (Ask device) todo = inl todo
-      retried-back (Some first) (Delete device) todo = inl todo
-
-      retried-does : (found : Option Target) → Does begun repair.stamp (ToRepair begun then_on repairing.heard (retried without found)) then_on (due ++ due_retried found)
-      retried-does found = does-told begun repair.stamp (Todo past) (ToRepair begun then_on repairing.heard (retried without found)) past due repairing.does (retried-keeps found) fetch answer (due_retried found) (retried-due found)
-          (retried-back found)
-
-      repairing-retried : (found : Option Target) → Gathers begun then_on (retried without found) (due ++ due_retried found) → Repairing begun then_on (retried without found) (due ++ due_retried found)
-      repairing-retried None gathers = record {
-        heard = repairing.heard;
-        surveyed = fetch-surveyed;
-        own = repairing.own;
-        lacking = repairing.lacking;
-        choices = repairing.choices;
-        listed = repairing.listed;
-        does = retried-does None;
-        commits = repairing.commits ∙ ap {A = ℕ} capped (omega arith);
-        rebuilt = repairing.rebuilt ∙ ap {A = ℕ} capped (omega arith);
-        failures = fetch-failures;
-        gathers = gathers;
-      }
-      repairing-retried (Some first) gathers = record {
-        heard = repairing.heard;
-        surveyed = fetch-surveyed;
-        own = repairing.own;
-        lacking = repairing.lacking;
-        choices = repairing.choices;
-        listed = repairing.listed;
-        does = retried-does (Some first);
-        commits = repairing.commits ∙ ap {A = ℕ} capped (omega arith);
-        rebuilt = repairing.rebuilt ∙ ap {A = ℕ} capped (omega arith);
-        failures = fetch-failures;
-        gathers = gathers;
-      }
-
-      pub repairing-lost : Repairing begun then_on (retried without (free_in without)) (due ++ due_retried (free_in without))
-      repairing-lost = repairing-retried (free_in without) (gathers-lost begun past repair due repairing.gathers ticket source answer there how is)
-
--- ---- as a repair begins
-
--- no question is a fetch
-no-fetch : (begun : Begun) (sents : List Sent) → All (IsQuestion begun) sents → count_by is_fetch sents ≡ 0
-no-fetch begun [] all = refl
-no-fetch begun (sent ∷ sents) all =
-    omega (
-      arith,
-      no-fetch begun sents (All-tail (IsQuestion begun) sent sents all),
-      sum_by-cons (λ (one : Sent). cond (is_fetch one) 1 0) sent sents,
-      ap {B = ℕ} (λ (one : Msg). cond (fetches one) 1 0) (All-head (IsQuestion begun) sent sents all),
-    )
-
-commits-no-fetch : (targets : List Target) → count_by to_fetch (map Commit targets) ≡ 0
-commits-no-fetch [] = refl
-commits-no-fetch (target ∷ targets) = omega (arith, commits-no-fetch targets, sum_by-cons (λ (one : Errand). cond (to_fetch one) 1 0) (Commit target) (map Commit targets))
-
-all-fetches : (targets : List Target) → count_by to_fetch (map Fetch targets) ≡ length targets
-all-fetches [] = refl
-all-fetches (target ∷ targets) = omega (arith, all-fetches targets, sum_by-cons (λ (one : Errand). cond (to_fetch one) 1 0) (Fetch target) (map Fetch targets))
-
--- the sources that are tried first are choices, and k of them where there are so many and some archive is lacking
-module _ (k : ℕ) (lacking choices : List Target) where
-  first-chosen : All (Contains choices) (first_tried k lacking (firsts choices))
-  first-chosen = by_test (is_empty lacking || nat_lt (length (firsts choices)) k)
-    where
-      by_test : (b : Bool) → All (Contains choices) (if b then [] else take k (firsts choices))
-      by_test true = All-nil (Contains choices)
-      by_test false = All-take (Contains choices) k (firsts choices) (firsts-kept (Contains choices) choices (All-contains_itself choices))
-
-  first-count : is_empty lacking ≡ false → k ≤ min (length (firsts choices)) k → length (first_tried k lacking (firsts choices)) ≡ k
-  first-count some enough =
-      let many : k ≤ length (firsts choices) = omega (arith, enough) in
-      ap (λ b. length (if b || nat_lt (length (firsts choices)) k then [] else take k (firsts choices))) some
-      ∙ ap (λ b. length (if b then [] else take k (firsts choices))) (le-ltb (length (firsts choices)) k many)
-      ∙ length-take-le k (firsts choices) many
-
-module _ (begun : Begun) (past : List Step) (run : IsRun (IsNext begun) past) (none : opens past ≡ []) (questions : All (IsQuestion begun) (given past)) (heard : Heard) (surveyed : Surveyed begun past heard) (stamp : ℕ) where
-  abbrev policy_k : ℕ
-  policy_k = begun.cluster.policy.k
-
-  abbrev planned : Repair
-  planned = repair_with policy_k (total begun) (primaries begun) heard stamp
-
-  abbrev plain : List Target
-  plain = filter (shows_plain stamp heard.lists) (targets_from 0 (primaries begun))
-
-  abbrev planned_due : List Errand
-  planned_due = map Commit plain ++ map Fetch planned.tried
-
-  nothing-told : (device : ℕ) (msg : Msg) (answer : Option Reply) → (msg ≡ message.Ask begun.place → ⊥) → WasTold past device msg answer → ⊥
-  nothing-told device msg answer other was = other (was-asked begun past run questions device msg answer was)
-
-  gathers-begun : Gathers begun past planned planned_due
-  gathers-begun = record {
-    brought = record { each = All-nil (WasBrought begun past stamp); distinct = λ i j d less within. absurd (omega (arith, within)) };
-    few = omega arith;
-    spent = λ source answer was. absurd (nothing-told source.device (message.Fetch begun.place stamp source.index) answer (λ same. cc) was);
-    tries = omega (
-      arith,
-      no-fetch begun (given past) questions,
-      sum_by-append (λ (one : Errand). cond (to_fetch one) 1 0) (map Commit plain) (map Fetch planned.tried),
-      commits-no-fetch plain,
-      all-fetches planned.tried,
-    );
-    losses = omega (arith, no-fetch begun (closed past) (closed-each begun (IsQuestion begun) past run questions));
-    chosen = first-chosen policy_k planned.lacking planned.choices;
-    lost_tried = All-nil (Contains planned.tried);
-    free = λ lacking listed. inr (omega (arith, first-count policy_k planned.lacking planned.choices lacking listed));
-    misses = All-weaker (λ (one : ℕ × Miss). MissedAsk begun past one.0 one.1) (IsMissOf begun past stamp) (λ one is. inl is) heard.misses surveyed.survey.misses;
-    asks = surveyed.survey.all_misses;
-  }
-
-  abbrev Planned : Errand → Type 0
-  Planned = ToRepair begun past heard planned
-
-  planned-sought : All Planned planned_due
-  planned-sought = All-append Planned (map Commit plain) (map Fetch planned.tried)
-      (All-map Planned Commit plain
-      (All-weaker (Contains plain) (λ (target : Target). Planned (Commit target)) (λ target there. inl (from_filter (shows_plain stamp heard.lists) (targets_from 0 (primaries begun)) target there)) plain (All-contains_itself plain)))
-      (All-map Planned Fetch planned.tried (All-contains_itself planned.tried))
-
-  planned-all : 1 ≤ policy_k → (errand : Errand) → Planned errand → Contains planned_due errand
-  planned-all some (Commit target) (inl is) =
-      Contains-append_left (map Commit plain) (map Fetch planned.tried) (Commit target)
-      (in_map Commit plain target (in_filter (shows_plain stamp heard.lists) (targets_from 0 (primaries begun)) target is.0 is.1))
-  planned-all some (Commit target) (inr (lacking, was)) = absurd (nothing-told target.device (message.PutFrag begun.place stamp target.index was.0) (Some reply.Synced) (λ same. cc) was.1)
-  planned-all some (Store target) is = absurd (omega (arith, some, is.1))
-  planned-all some (Fetch source) is = Contains-append_right (map Commit plain) (map Fetch planned.tried) (Fetch source) (in_map Fetch planned.tried source is)
-  planned-all some (Ask device) is = absurd is
-  planned-all some (Delete device) is = absurd is
-
-  pub repairing-begun : 1 ≤ policy_k → OwnFloor begun heard (durable_at stamp) → Repairing begun past planned planned_due
-  repairing-begun some own = record {
-    heard = heard;
-    surveyed = surveyed;
-    own = own;
-    lacking = refl;
-    choices = refl;
-    listed = refl;
-    does = does-begun begun stamp Planned past planned_due none planned-sought (planned-all some);
-    commits = ap capped (sym (none-counted begun past run questions (is_committed (λ index. not (is_lacking planned index))) (λ answer. refl)));
-    rebuilt = ap capped (sym (none-counted begun past run questions (is_committed (is_lacking planned)) (λ answer. refl)));
-    failures = failures-begun begun past run questions heard surveyed;
-    gathers = gathers-begun;
-  }

@@ -1,10 +1,11 @@
 -- What devices show, in the words of the causes.
-use Rattle.std.proofs.Common.{◌≡◌, ◌⊎◌, inl, inr, ℕ, zero, suc, ◌+◌, ◌==◌, ◌&&◌, Bool, true, false, not, Contains, List, [], ◌∷◌, Option, Some, None, refl, sym, ap, subst, ◌∙◌, arith}
+use Rattle.std.proofs.Common.{◌≡◌, ◌≢◌, inl, inr, get_or, ℕ, zero, suc, ◌+◌, ◌==◌, ◌&&◌, Bool, true, false, not, Contains, List, [], ◌∷◌, Option, Some, None, refl, sym, ap, subst, ◌∙◌, arith}
 use Rattle.std.specs.Prelude.{slice_get}
-use Rattle.std.specs.List.{flat_map, list_any}
-use Rattle.std.proofs.lemmas.Bool.{and_from, and_parts, cases_Bool, eq-eqb, eqb-true, not-true, true≢false}
-use Rattle.std.proofs.lemmas.List.Elements.{All-contains}
-use Rattle.std.proofs.lemmas.Option.{none-some, same_Some}
+use Rattle.std.specs.List.{AllPairs, flat_map, list_any}
+use Rattle.std.proofs.lemmas.Bool.{and_from, and_parts, cases_Bool, cases_order, eq-eqb, eqb-true, not-true, true≢false}
+use Rattle.std.proofs.lemmas.List.Elements.{All-contains, All-contains_itself, All-weaker}
+use Rattle.std.proofs.lemmas.List.Kept.{AllPairs-cons}
+use Rattle.std.proofs.lemmas.Option.{get_or_from_slice_get, none-some, same_Some, slice_get_within}
 use Rattle.sw_hashdir.specs.Directory.{IsAbove}
 use Rattle.sw_hashdir.specs.Listing.{ListingModel}
 use Rattle.sw_hashdir.specs.declared.entry.Entry.{Entry}
@@ -13,13 +14,16 @@ use Rattle.sw_ring.proofs.Among.{Contains-cons}
 use Rattle.sw_message.specs.Floors.{IsHighest, floors_in, is_above}
 use Rattle.sw_message.specs.Transcript.{Step}
 use Rattle.sw_message.specs.Warrant.{IsPrimaryOf}
+use Rattle.sw_message.specs.declared.miss.Miss.{Miss}
 use Rattle.sw_message.specs.declared.target.Target.{Target}
 use Rattle.sw_message.proofs.Highest.{above, above_lower, is_highest, neither_above, not_above}
+use Rattle.sw_quorum.specs.Places.{counted-among}
 use Rattle.sw_quorum.specs.Targets.{targets_from}
 use Rattle.sw_gather.proofs.Lists.{any_passes, first_or_later, from_flat, here, in_flat, none_in, some_passes}
-use Rattle.sw_sync.specs.Causes.{HasFloor, IsNewer, IsOwnFloor, ListsNone, ListsPlain, WasListed}
+use Rattle.sw_sync.specs.Answers.{HasFloor, IsOwnFloor, ListsNone, ListsPlain, MissedAsk, WasListed}
+use Rattle.sw_sync.specs.Causes.{IsNewer}
 use Rattle.sw_sync.specs.Parts.{Heard}
-use Rattle.sw_sync.specs.Sync.{Begun, floor_of, greatest_of, has_none, has_plain, is_durable_entry, is_entry, is_over, listing_of, lists_below, primaries, shows_none, shows_plain}
+use Rattle.sw_sync.specs.Sync.{Begun, floor_of, greatest_of, has_none, has_plain, is_durable_entry, is_entry, is_over, listing_of, lists_below, of_device, primaries, shows_none, shows_plain}
 use Rattle.sw_sync.proofs.Asking.{Surveyed, listing-in}
 use Rattle.sw_sync.proofs.Plans.{IsOvertaken, OwnFloor}
 
@@ -69,6 +73,33 @@ target-at from (first ∷ devices) zero index device at is =
     (subst (λ n. Contains (targets_from from (first ∷ devices)) (record { index = from; device = n })) same (here (record { index = from; device = first }) (targets_from (from + 1) devices)))
 target-at from (first ∷ devices) (suc n) index device at is =
     Contains-cons (record { index = index; device = device }) (record { index = from; device = first }) (targets_from (from + 1) devices) (target-at (from + 1) devices n index device (omega (arith, at)) is)
+
+abbrev pub HaveOtherIndex : Target → Target → Type 0
+HaveOtherIndex a b = a.index ≢ b.index
+
+-- no two have an index in common
+pub targets-apart : (from : ℕ) (devices : List ℕ) → AllPairs HaveOtherIndex (targets_from from devices)
+targets-apart from [] = λ i j d less within. absurd (omega arith)
+targets-apart from (device ∷ devices) =
+    let this : Target = record { index = from; device = device } in
+    let rest : List Target = targets_from (from + 1) devices in
+    AllPairs-cons HaveOtherIndex this rest
+    (All-weaker (Contains rest) (λ (one : Target). from ≢ one.index) (λ one there same. let at = at-target (from + 1) devices one there in absurd (omega (arith, at.1, same))) rest (All-contains_itself rest))
+    (targets-apart (from + 1) devices)
+
+-- nor a device, where primaries are all different
+pub one-target : (devices : List ℕ) → AllPairs (λ a b. a ≢ b) devices → (a b : Target) → slice_get devices a.index ≡ Some a.device → slice_get devices b.index ≡ Some b.device → a.device ≡ b.device → a ≡ b
+one-target devices apart a b at bt same = ap (λ n. record { index = n; device = a.device }) (elim (cases_order a.index b.index) [
+  | inl is ↦ is
+  | inr (inl less) ↦ absurd (apart a.index b.index a.device less (slice_get_within devices b.index b.device bt) (first ∙ same ∙ sym second))
+  | inr (inr more) ↦ absurd (apart b.index a.index a.device more (slice_get_within devices a.index a.device at) (second ∙ sym same ∙ sym first))
+]) ∙ ap (λ n. record { index = b.index; device = n }) same
+  where
+    first : get_or devices a.index a.device ≡ a.device
+    first = get_or_from_slice_get devices a.index a.device a.device at
+
+    second : get_or devices b.index a.device ≡ b.device
+    second = get_or_from_slice_get devices b.index b.device a.device bt
 
 module _ (begun : Begun) (target : Target) where
   pub is-primary : Contains (targets_from 0 (primaries begun)) target → IsPrimaryOf begun.cluster begun.place target.index target.device
@@ -124,15 +155,16 @@ module _ (stamp : ℕ) (target : Target) (entries : List Entry) where
   pub none-shown : ((durable : Bool) → Contains entries (entry durable) → ⊥) → not (list_any (is_entry stamp target) entries) ≡ true
   none-shown none = elim (cases_Bool (list_any (is_entry stamp target) entries)) [ inl some ↦ absurd (let one = some-entry some in none one.0 one.1) | inr nowhere ↦ ap not nowhere ]
 
-  -- an entry is there durable, or plain, or not at all
-  pub three-ways : Contains entries (entry true) ⊎ (((list_any (is_entry stamp target) entries && not (list_any (is_durable_entry stamp target) entries)) ≡ true) ⊎ (not (list_any (is_entry stamp target) entries) ≡ true))
-  three-ways = elim (cases_Bool (list_any (is_durable_entry stamp target) entries)) [
-    | inl durable ↦ inl (durable-entry durable)
-    | inr plain ↦ elim (cases_Bool (list_any (is_entry stamp target) entries)) [
-      | inl some ↦ inr (inl (and_from (list_any (is_entry stamp target) entries) (not (list_any (is_durable_entry stamp target) entries)) some (ap not plain)))
-      | inr none ↦ inr (inr (ap not none))
-    ]
+  pub plain-shown : Contains entries (entry false) → (Contains entries (entry true) → ⊥) → (list_any (is_entry stamp target) entries && not (list_any (is_durable_entry stamp target) entries)) ≡ true
+  plain-shown there never = elim (cases_Bool (list_any (is_durable_entry stamp target) entries)) [
+    | inl durable ↦ absurd (never (durable-entry durable))
+    | inr plain ↦ and_from (list_any (is_entry stamp target) entries) (not (list_any (is_durable_entry stamp target) entries)) (any-entry false there) (ap not plain)
   ]
+
+-- what is lacking is not there plain
+pub plain-not_none : (stamp : ℕ) (target : Target) (found : Option ListingModel) → has_plain stamp target found ≡ true → has_none stamp target found ≡ true → ⊥
+plain-not_none stamp target None plain none = true≢false (sym plain)
+plain-not_none stamp target (Some listing) plain none = no-entry stamp target listing.entries none false (plain-entry stamp target listing.entries plain).0
 
 -- ---- what was listed
 
@@ -142,6 +174,16 @@ module _ (begun : Begun) (past : List Step) (heard : Heard) (is : Surveyed begun
 
   pub is-found : (device : ℕ) (listing : ListingModel) → WasListed begun past device listing → listing_of heard.lists device ≡ Some listing
   is-found device listing was = is.once device listing (is.survey.all_lists device listing was)
+
+  -- a device that was listed did not miss
+  pub listed-answered : (device : ℕ) (listing : ListingModel) → WasListed begun past device listing → (how : Miss) → MissedAsk begun past device how → ⊥
+  listed-answered device listing was how missed =
+      absurd (omega (
+        arith,
+        is.each_once device,
+        counted-among (of_device device) heard.lists (device, listing) (eq-eqb device device refl) (is.survey.all_lists device listing was),
+        counted-among (of_device device) heard.misses (device, how) (eq-eqb device device refl) (is.survey.all_misses device how missed),
+      ))
 
   abbrev all_floors : List Floor
   all_floors = flat_map (λ (one : ℕ × ListingModel). floors_in one.1) heard.lists
@@ -219,13 +261,5 @@ module _ (begun : Begun) (past : List Step) (heard : Heard) (is : Surveyed begun
     pub shows-none : ListsNone begun past stamp target → shows_none stamp heard.lists target ≡ true
     shows-none lists = ap (has_none stamp target) (is-found target.device lists.listing lists.listed) ∙ none-shown stamp target lists.listing.entries lists.none
 
-    -- a primary that listed has the entry durable, or plain, or not at all
-    pub shows-one : (listing : ListingModel) → WasListed begun past target.device listing
-        → Contains listing.entries (record { stamp = stamp; index = target.index; durable = true }) ⊎ ((shows_plain stamp heard.lists target ≡ true) ⊎ (shows_none stamp heard.lists target ≡ true))
-    shows-one listing was =
-        let found = is-found target.device listing was in
-        elim (three-ways stamp target listing.entries) [
-          | inl durable ↦ inl durable
-          | inr (inl plain) ↦ inr (inl (ap (has_plain stamp target) found ∙ plain))
-          | inr (inr none) ↦ inr (inr (ap (has_none stamp target) found ∙ none))
-        ]
+    pub shows-plain : ListsPlain begun past stamp target → shows_plain stamp heard.lists target ≡ true
+    shows-plain lists = ap (has_plain stamp target) (is-found target.device lists.listing lists.listed) ∙ plain-shown stamp target lists.listing.entries lists.plain lists.not_durable

@@ -13,7 +13,7 @@ use Rattle.sw_message.specs.declared.reply.Reply.{Reply}
 use Rattle.sw_message.specs.declared.reply.Reply.TheVariants as reply
 use Rattle.sw_message.specs.declared.sent.Sent.{Sent}
 use Rattle.sw_gather.proofs.Lists.{first_or_later, here, none_in}
-use Rattle.sw_sync.specs.Causes.{IsMissedAsk, MissedAsk, WasListed, WasTold}
+use Rattle.sw_sync.specs.Answers.{IsMissedAsk, MissedAsk, WasListed, WasTold}
 use Rattle.sw_sync.specs.Parts.{Heard}
 use Rattle.sw_sync.specs.Sync.{Begun, heard_from}
 use Rattle.sw_sync.proofs.Messages.{told-cases, told-later}
@@ -48,6 +48,17 @@ module _ (begun : Begun) (past : List Step) (step : Step) where
   pub missed-later : (device : ℕ) (how : Miss) → MissedAsk begun past device how → MissedAsk begun (step ∷ past) device how
   missed-later device how is = record { answer = is.answer; told = told-later past step device (message.Ask begun.place) is.answer is.told; missed = is.missed }
 
+  -- where it answers no question, such a miss was there before
+  module _ (other : IsNoQuestion begun step) where
+    told-before : (device : ℕ) (answer : Option Reply) → WasTold (step ∷ past) device (message.Ask begun.place) answer → WasTold past device (message.Ask begun.place) answer
+    told-before device answer (ticket, there) = elim (first_or_later step past (Told (record { ticket = ticket; device = device; msg = message.Ask begun.place }) answer) there) [
+      | inl same ↦ absurd (other device answer ticket same)
+      | inr later ↦ (ticket, later)
+    ]
+
+    pub missed-before : (device : ℕ) (how : Miss) → MissedAsk begun (step ∷ past) device how → MissedAsk begun past device how
+    missed-before device how is = record { answer = is.answer; told = told-before device is.answer is.told; missed = is.missed }
+
   module _ (heard : Heard) (survey : Survey begun past heard) where
     abbrev now : List Step
     now = step ∷ past
@@ -64,18 +75,10 @@ module _ (begun : Begun) (past : List Step) (step : Step) where
     pub survey-same : IsNoQuestion begun step → Survey begun now heard
     survey-same other = record {
       lists = lists-later;
-      all_lists = λ device listing is. survey.all_lists device listing (before device (Some (reply.Held listing)) is);
+      all_lists = λ device listing is. survey.all_lists device listing (told-before other device (Some (reply.Held listing)) is);
       misses = misses-later;
-      all_misses = λ device how is. survey.all_misses device how (record { answer = is.answer; told = before device is.answer is.told; missed = is.missed });
+      all_misses = λ device how is. survey.all_misses device how (missed-before other device how is);
     }
-      where
-        before : (device : ℕ) (answer : Option Reply) → ((ticket : ℕ) × Contains now (Told (record { ticket = ticket; device = device; msg = message.Ask begun.place }) answer))
-            → (ticket : ℕ) × Contains past (Told (record { ticket = ticket; device = device; msg = message.Ask begun.place }) answer)
-        before device answer (ticket, there) =
-            elim (first_or_later step past (Told (record { ticket = ticket; device = device; msg = message.Ask begun.place }) answer) there) [
-              | inl same ↦ absurd (other device answer ticket same)
-              | inr later ↦ (ticket, later)
-            ]
 
 -- a device answered as it was asked
 module _ (begun : Begun) (past : List Step) (heard : Heard) (survey : Survey begun past heard) (ticket device : ℕ) where

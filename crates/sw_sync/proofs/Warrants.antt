@@ -24,7 +24,7 @@ use Rattle.sw_message.specs.declared.sent.Sent.{Sent}
 use Rattle.sw_message.specs.declared.target.Target.{Target}
 use Rattle.sw_gather.proofs.Lists.{first_or_later, from_filter, from_map, none_in}
 use Rattle.sw_gather.proofs.Sources.{OfEntries, choices-of}
-use Rattle.sw_sync.specs.Causes.{IsOwnFloor, WasBrought}
+use Rattle.sw_sync.specs.Answers.{IsOwnFloor, WasBrought}
 use Rattle.sw_sync.specs.Parts.{Burial, Repair}
 use Rattle.sw_sync.specs.Standing.{ends}
 use Rattle.sw_sync.specs.State.{State}
@@ -104,11 +104,11 @@ module _ (begun : Begun) (past : List Step) (learnt : Learnt) (knows : AreKnown 
   -- archives that were brought are of one put
   module _ (stamp : ℕ) where
     of-book : (archive : ArchiveModel) → WasBrought begun past stamp archive → IsOfBook begun.cluster learnt.book archive
-    of-book archive was = (reply-known begun.cluster learnt past _ (reply.Fragment was.bytes) knows was.told.1).1 archive was.wanted.0
+    of-book archive was = (reply-known begun.cluster learnt past _ (reply.Fragment was.bytes) knows was.told.1).1 archive was.is.is
 
     -- the put has their stamp
     booked-stamp : (archive : ArchiveModel) (was : WasBrought begun past stamp archive) → (of-book archive was).0.stamp ≡ stamp
-    booked-stamp archive was = sym (ap (λ (one : ArchiveModel). one.stamp) (of-book archive was).2) ∙ was.wanted.1.stamp_is
+    booked-stamp archive was = sym (ap (λ (one : ArchiveModel). one.stamp) (of-book archive was).2) ∙ was.is.asked.stamp_is
 
     one-put : (first archive : ArchiveModel) (was : WasBrought begun past stamp first) (other : WasBrought begun past stamp archive) → (of-book archive other).0 ≡ (of-book first was).0
     one-put first archive was other =
@@ -126,7 +126,7 @@ module _ (begun : Begun) (past : List Step) (learnt : Learnt) (knows : AreKnown 
           booked = booked;
           known = (of-book first was).1;
           stamp_is = stamp_is;
-          place_is = ap (λ (archive : ArchiveModel). place_of_name begun.cluster archive.name) (sym (of-book first was).2) ∙ was.wanted.1.name;
+          place_is = ap (λ (archive : ArchiveModel). place_of_name begun.cluster archive.name) (sym (of-book first was).2) ∙ was.is.asked.name;
           index_below = below;
           archive = rebuilt.put begun.cluster.policy stamp booked.name booked.object (subst (λ n. IsPut begun.cluster.policy n booked.name booked.object) stamp_is put)
               (All-weaker (WasBrought begun past stamp) (λ (archive : ArchiveModel). archive ≡ put_fields begun.cluster.policy stamp booked.name booked.object archive.index)

@@ -1,138 +1,25 @@
--- Why a sync ended as it did, and why it handed out what it did, by what was answered.
-use Rattle.std.specs.Prelude.{◌≡◌, ◌≢◌, ◌⊎◌, ℕ, ◌+◌, ◌-◌, ◌^◌, ◌<◌, ◌≤◌, Bool, true, false, not, min, if◌then◌else◌, List, [], ◌∷◌, ◌++◌, Contains, length, Option, Some, None, ⊤}
-use Rattle.std.specs.List.{All, AllPairs, list_any}
-use Rattle.sw_hashpath.specs.Place.{PlaceModel}
+-- Why a sync ended as it did, by what was answered.
+use Rattle.std.specs.Prelude.{◌≡◌, ◌≢◌, ◌⊎◌, ℕ, ◌+◌, ◌-◌, ◌^◌, ◌<◌, ◌≤◌, Bool, true, false, not, min, if◌then◌else◌, List, [], ◌∷◌, ◌++◌, Contains, length, Option, Some, None}
+use Rattle.std.specs.List.{All, AllPairs}
 use Rattle.sw_hashdir.specs.Directory.{IsAbove}
 use Rattle.sw_hashdir.specs.Listing.{ListingModel}
-use Rattle.sw_hashdir.specs.declared.entry.Entry.{Entry}
 use Rattle.sw_hashdir.specs.declared.floor.Floor.{Floor}
 use Rattle.sw_archive.specs.Archive.{ArchiveModel}
-use Rattle.sw_archive.specs.Assemble.{IsFurther}
 use Rattle.sw_message.specs.Floors.{durable_at, floors_in, refuses, stands_above, tombstone_floor}
+use Rattle.sw_message.specs.Message.{is_primary}
 use Rattle.sw_message.specs.Miss.{miss_of}
-use Rattle.sw_message.specs.Spoil.{IsSpoil}
 use Rattle.sw_message.specs.Transcript.{Gave, Step, Told}
-use Rattle.sw_message.specs.Warrant.{IsPrimaryOf}
 use Rattle.sw_message.specs.declared.message.Msg.{Msg}
 use Rattle.sw_message.specs.declared.message.Msg.TheVariants as message
 use Rattle.sw_message.specs.declared.miss.Miss.{Miss}
 use Rattle.sw_message.specs.declared.miss.Miss.TheVariants as miss
 use Rattle.sw_message.specs.declared.reply.Reply.{Reply}
 use Rattle.sw_message.specs.declared.reply.Reply.TheVariants as reply
-use Rattle.sw_message.specs.declared.spoil.Foreign.TheVariants as foreign
-use Rattle.sw_message.specs.declared.spoil.Spoil.TheVariants as spoil
 use Rattle.sw_message.specs.declared.target.Target.{Target}
-use Rattle.sw_gather.specs.Gathered.{Strays}
-use Rattle.sw_sync.specs.Sync.{Begun, IsWanted, handoffs, primaries, total}
+use Rattle.sw_sync.specs.Answers.{AreBrought, AreIndices, HasFloor, IsOwnFloor, IsSource, ListsNone, ListsPlain, MissedAsk, MissedFetch, WasListed, WasTold}
+use Rattle.sw_sync.specs.Sync.{Begun}
 use Rattle.sw_sync.specs.declared.sync_end.Failure.{Failure}
 use Rattle.sw_sync.specs.declared.sync_end.Failure.TheVariants.{Missed, Superseded}
-
--- ---- what was answered
-
--- a device answered a message, or it was given up
-abbrev pub WasTold : List Step → (device : ℕ) → Msg → Option Reply → Type 0
-WasTold past device msg answer = (ticket : ℕ) × Contains past (Told (record { ticket = ticket; device = device; msg = msg }) answer)
-
--- a device listed this
-abbrev pub WasListed : Begun → List Step → (device : ℕ) → ListingModel → Type 0
-WasListed begun past device listing = WasTold past device (message.Ask begun.place) (Some (reply.Held listing))
-
--- an answer to a question is a miss
-abbrev pub IsMissedAsk : Option Reply → Miss → Type 0
-IsMissedAsk None how = how ≡ miss.NoReply
-IsMissedAsk (Some (reply.Held listing)) how = ⊥
-IsMissedAsk (Some other) how = how ≡ miss_of other
-
-pub record MissedAsk (begun : Begun) (past : List Step) (device : ℕ) (how : Miss) : Type 0 where
-  pub answer : Option Reply
-  pub told : WasTold past device (message.Ask begun.place) answer
-  pub missed : IsMissedAsk answer how
-
--- a device of the place
-abbrev pub IsOfPlace : Begun → ℕ → Type 0
-IsOfPlace begun device = Contains (handoffs begun) device ⊎ Contains (primaries begun) device
-
--- each of them was asked, and answered or was given up
-abbrev pub AllAnswered : Begun → List Step → Type 0
-AllAnswered begun past = (device : ℕ) → IsOfPlace begun device → (answer : Option Reply) × WasTold past device (message.Ask begun.place) answer
-
--- ---- floors
-
--- a listing shows this floor and none above it
-pub record HasFloor (listing : ListingModel) (floor : Floor) : Type 0 where
-  pub shown : Contains (floors_in listing) floor
-  pub none_above : (other : Floor) → Contains (floors_in listing) other → IsAbove other floor → ⊥
-
--- the own device listed this floor, and no device one above it
-pub record IsOwnFloor (begun : Begun) (past : List Step) (floor : Floor) : Type 0 where
-  pub listing : ListingModel
-  pub own : WasListed begun past begun.device listing
-  pub floor_is : HasFloor listing floor
-  pub greatest : (device : ℕ) (other : ListingModel) (above : Floor) → WasListed begun past device other → Contains (floors_in other) above → IsAbove above floor → ⊥
-
--- ---- what primaries showed
-
--- the primary of an index listed its entry of a stamp, but not durable; or it listed none
-pub record ListsPlain (begun : Begun) (past : List Step) (stamp : ℕ) (target : Target) : Type 0 where
-  pub primary : IsPrimaryOf begun.cluster begun.place target.index target.device
-  pub listing : ListingModel
-  pub listed : WasListed begun past target.device listing
-  pub plain : Contains listing.entries (record { stamp = stamp; index = target.index; durable = false })
-  pub not_durable : Contains listing.entries (record { stamp = stamp; index = target.index; durable = true }) → ⊥
-
-pub record ListsNone (begun : Begun) (past : List Step) (stamp : ℕ) (target : Target) : Type 0 where
-  pub primary : IsPrimaryOf begun.cluster begun.place target.index target.device
-  pub listing : ListingModel
-  pub listed : WasListed begun past target.device listing
-  pub none : (durable : Bool) → Contains listing.entries (record { stamp = stamp; index = target.index; durable = durable }) → ⊥
-
--- ---- archives
-
--- a source sent the archive of its index, at the place and the stamp
-pub record WasBrought (begun : Begun) (past : List Step) (stamp : ℕ) (archive : ArchiveModel) : Type 0 where
-  pub device : ℕ
-  pub bytes : List ℕ
-  pub told : WasTold past device (message.Fetch begun.place stamp archive.index) (Some (reply.Fragment bytes))
-  pub wanted : IsWanted begun.cluster begun.place stamp archive.index bytes archive
-
--- archives of different indices that were brought
-pub record AreBrought (begun : Begun) (past : List Step) (stamp : ℕ) (archives : List ArchiveModel) : Type 0 where
-  pub each : All (WasBrought begun past stamp) archives
-  pub distinct : AllPairs (λ a b. a.index ≢ b.index) archives
-
--- bytes are the archive of an index, rebuilt from k archives of different indices, each brought by a source
-pub record WasRebuilt (begun : Begun) (past : List Step) (stamp index : ℕ) (bytes : List ℕ) : Type 0 where
-  pub archives : List ArchiveModel
-  pub brought : AreBrought begun past stamp archives
-  pub enough : length archives ≡ begun.cluster.policy.k
-  pub further : IsFurther archives index bytes
-
--- ---- messages
-
--- The tombstone that is the own floor goes to a primary that listed a smaller floor, or none.
-pub record MayDelete (begun : Begun) (past : List Step) (device stamp : ℕ) : Type 0 where
-  pub own : IsOwnFloor begun past (tombstone_floor stamp)
-  pub primary : Contains (primaries begun) device
-  pub listing : ListingModel
-  pub listed : WasListed begun past device listing
-  pub below : (floor : Floor) → Contains (floors_in listing) floor → IsAbove (tombstone_floor stamp) floor
-
--- A rebuilt archive goes to the primary of its index, which listed none of the stamp, which is the own floor, durable.
-pub record MayStore (begun : Begun) (past : List Step) (target : Target) (stamp : ℕ) (bytes : List ℕ) : Type 0 where
-  pub own : IsOwnFloor begun past (durable_at stamp)
-  pub lacks : ListsNone begun past stamp target
-  pub rebuilt : WasRebuilt begun past stamp target.index bytes
-
--- the primary of an index listed no entry of the stamp, and stored the archive that it was sent
-pub record WasStored (begun : Begun) (past : List Step) (stamp : ℕ) (target : Target) : Type 0 where
-  pub lacked : ListsNone begun past stamp target
-  pub bytes : List ℕ
-  pub told : WasTold past target.device (message.PutFrag begun.place stamp target.index bytes) (Some reply.Synced)
-
--- An entry of the stamp that is the own floor, durable, is made durable at the primary of its index, which listed it plain or stored it.
-pub record MayCommit (begun : Begun) (past : List Step) (target : Target) (stamp : ℕ) : Type 0 where
-  pub own : IsOwnFloor begun past (durable_at stamp)
-  pub there : ListsPlain begun past stamp target ⊎ WasStored begun past stamp target
 
 -- ---- failures
 
@@ -156,17 +43,21 @@ IsForbidden (message.PutFrag place stamp index bytes) floor = stands_above floor
 IsForbidden (message.Commit place stamp index) floor = stands_above floor stamp ≡ true
 IsForbidden other floor = ⊥
 
--- what a primary did not do: it missed as it was asked, or as it was told something, or a floor forbade that
-abbrev pub HasFailed : Begun → List Step → Failure → Type 0
-HasFailed begun past (Missed device how) =
-    Contains (primaries begun) device × (MissedAsk begun past device how ⊎ ((msg : Msg) × (answer : Option Reply) × WasTold past device msg answer × IsMissedWrite msg answer how))
-HasFailed begun past (Superseded device floor) =
-    Contains (primaries begun) device × (msg : Msg) × WasTold past device msg (Some (reply.Superseded floor)) × IsForbidden msg floor
+abbrev pub failed_device : Failure → ℕ
+failed_device (Missed device how) = device
+failed_device (Superseded device floor) = device
 
--- each is among those that are told: of the primaries that missed as they were asked, and of those that did not do what they were told
+-- what a device did not do: it missed as it was asked, or as it was told something, or a floor forbade that
+abbrev pub HasFailed : Begun → List Step → Failure → Type 0
+HasFailed begun past (Missed device how) = MissedAsk begun past device how ⊎ ((msg : Msg) × (answer : Option Reply) × WasTold past device msg answer × IsMissedWrite msg answer how)
+HasFailed begun past (Superseded device floor) = (msg : Msg) × WasTold past device msg (Some (reply.Superseded floor)) × IsForbidden msg floor
+
+-- These are the primaries that missed as they were asked, and those that did not do what they were told, each once.
 pub record AreFailures (begun : Begun) (past : List Step) (failed : List Failure) : Type 0 where
+  pub primaries : All (λ one. is_primary begun.cluster (failed_device one) begun.place ≡ true) failed
   pub each : All (HasFailed begun past) failed
-  pub asks : (device : ℕ) (how : Miss) → Contains (primaries begun) device → MissedAsk begun past device how → Contains failed (Missed device how)
+  pub once : AllPairs (λ one other. failed_device one ≢ failed_device other) failed
+  pub asks : (device : ℕ) (how : Miss) → is_primary begun.cluster device begun.place ≡ true → MissedAsk begun past device how → Contains failed (Missed device how)
   pub misses : (device : ℕ) (msg : Msg) (answer : Option Reply) (how : Miss) → WasTold past device msg answer → IsMissedWrite msg answer how → Contains failed (Missed device how)
   pub forbidden : (device : ℕ) (msg : Msg) (floor : Floor) → WasTold past device msg (Some (reply.Superseded floor)) → IsForbidden msg floor → Contains failed (Superseded device floor)
 
@@ -191,7 +82,7 @@ is_committed of msg answer = false
 abbrev pub capped : ℕ → ℕ
 capped count = min count (2 ^ 32 - 1)
 
--- ---- ends
+-- ---- it ended early
 
 -- The own device missed as it was asked.
 pub record IsUnanswered (begun : Begun) (past : List Step) (device : ℕ) : Type 0 where
@@ -212,70 +103,67 @@ pub record IsNewer (begun : Begun) (past : List Step) (floor : Floor) : Type 0 w
   pub shown : Contains (floors_in listing) floor
   pub greatest : (other : ℕ) (shows : ListingModel) (higher : Floor) → WasListed begun past other shows → Contains (floors_in shows) higher → IsAbove higher floor → ⊥
 
--- a device listed an entry of the stamp, of this index below the total
-pub record IsListed (begun : Begun) (past : List Step) (stamp index : ℕ) : Type 0 where
-  pub device : ℕ
-  pub listing : ListingModel
-  pub listed : WasListed begun past device listing
-  pub durable : Bool
-  pub entry : Contains listing.entries (record { stamp = stamp; index = index; durable = durable })
-  pub below : index < total begun
+-- ---- what was done about entries
 
--- these are all the indices that were listed, each once
-pub record AreIndices (begun : Begun) (past : List Step) (stamp : ℕ) (indices : List ℕ) : Type 0 where
-  pub each : All (IsListed begun past stamp) indices
-  pub all : (index : ℕ) → IsListed begun past stamp index → Contains indices index
-  pub distinct : AllPairs (λ a b. a ≢ b) indices
+-- each entry of the stamp that its primary listed plain was to be made durable
+abbrev pub PlainAreTold : Begun → List Step → ℕ → Type 0
+PlainAreTold begun past stamp = (target : Target) → ListsPlain begun past stamp target → (answer : Option Reply) × WasTold past target.device (message.Commit begun.place stamp target.index) answer
 
--- why bytes that were fetched are spoiled: they are not what was asked for, or not of the object of others that were brought before
-abbrev pub IsSpoilt : Begun → (before : List Step) → (stamp index : ℕ) → List ℕ → Miss → Type 0
-IsSpoilt begun before stamp index bytes (miss.Spoiled (spoil.Foreign foreign.Object)) =
-    (archive : ArchiveModel) × IsWanted begun.cluster begun.place stamp index bytes archive × (others : List ArchiveModel) × AreBrought begun before stamp others × Strays begun.cluster.policy others archive
-IsSpoilt begun before stamp index bytes (miss.Spoiled other) = IsSpoil begun.cluster begun.place stamp index bytes other
-IsSpoilt begun before stamp index bytes how = ⊥
+-- each that its primary lacked was rebuilt, and once it was stored was to be made durable
+abbrev pub LackingAreTold : Begun → List Step → ℕ → Type 0
+LackingAreTold begun past stamp = (target : Target) → ListsNone begun past stamp target → (bytes : List ℕ) × (answer : Option Reply) × WasTold past target.device (message.PutFrag begun.place stamp target.index bytes) answer
+    × (answer ≡ Some reply.Synced → (committed : Option Reply) × WasTold past target.device (message.Commit begun.place stamp target.index) committed)
 
--- an answer to a fetch is a miss
-abbrev pub IsMissedFetch : Begun → (before : List Step) → (stamp index : ℕ) → Option Reply → Miss → Type 0
-IsMissedFetch begun before stamp index None how = how ≡ miss.NoReply
-IsMissedFetch begun before stamp index (Some (reply.Fragment bytes)) how = IsSpoilt begun before stamp index bytes how
-IsMissedFetch begun before stamp index (Some (reply.Gone listing)) how = how ≡ miss.Gone
-IsMissedFetch begun before stamp index (Some other) how = how ≡ miss_of other
+-- ---- too few archives
 
-pub record MissedFetch (begun : Begun) (past : List Step) (stamp : ℕ) (source : Target) (how : Miss) : Type 0 where
-  pub later : List Step
-  pub before : List Step
-  pub ticket : ℕ
-  pub answer : Option Reply
-  pub told : past ≡ later ++ Told (record { ticket = ticket; device = source.device; msg = message.Fetch begun.place stamp source.index }) answer ∷ before
-  pub missed : IsMissedFetch begun before stamp source.index answer how
-
--- each miss is that of a device that was asked, or of a source
-abbrev pub IsMissOf : Begun → List Step → ℕ → ℕ × Miss → Type 0
-IsMissOf begun past stamp one = MissedAsk begun past one.0 one.1 ⊎ ((index : ℕ) × MissedFetch begun past stamp (record { index = index; device = one.0 }) one.1)
-
--- Fewer than k archives were to be had: fewer than k indices were listed, and nothing was fetched; or so many were brought, and each
--- source that was listed missed, or an archive of its index was brought.
+-- Fewer than k indices were listed, so many, and nothing was fetched.
 pub record FewListed (begun : Begun) (past : List Step) (stamp have : ℕ) : Type 0 where
   pub indices : List ℕ
   pub are : AreIndices begun past stamp indices
   pub count : length indices ≡ have
+  pub none_fetched : (source : Target) (answer : Option Reply) → WasTold past source.device (message.Fetch begun.place stamp source.index) answer → ⊥
 
-pub record FewBrought (begun : Begun) (past : List Step) (stamp have : ℕ) : Type 0 where
+-- a source is among those that missed, or an archive of its index among those that were brought
+abbrev pub IsUsed : List (Target × Miss) → List ArchiveModel → Target → Type 0
+IsUsed lost archives source = ((how : Miss) × Contains lost (source, how)) ⊎ ((archive : ArchiveModel) × Contains archives archive × (archive.index ≡ source.index))
+
+-- k indices or more were listed, so many archives were brought, and each other source missed or has an index that was brought.
+pub record FewBrought (begun : Begun) (past : List Step) (stamp have : ℕ) (lost : List (Target × Miss)) : Type 0 where
+  pub indices : List ℕ
+  pub are : AreIndices begun past stamp indices
+  pub listed : begun.cluster.policy.k ≤ length indices
   pub archives : List ArchiveModel
   pub brought : AreBrought begun past stamp archives
   pub count : length archives ≡ have
-  pub used_up : (device : ℕ) (listing : ListingModel) (entry : Entry) → WasListed begun past device listing → Contains listing.entries entry → entry.stamp ≡ stamp → entry.index < total begun
-      → ((how : Miss) × MissedFetch begun past stamp (record { index = entry.index; device = device }) how) ⊎ ((archive : ArchiveModel) × Contains archives archive × (archive.index ≡ entry.index))
+  pub used_up : (source : Target) → IsSource begun past stamp source → IsUsed lost archives source
+  pub fetched : (source : Target) (answer : Option Reply) → WasTold past source.device (message.Fetch begun.place stamp source.index) answer → IsUsed lost archives source
 
--- A primary lacks its archive of the stamp that is the own floor, durable, and fewer than k archives were to be had.
+-- each miss of a source, with the device
+abbrev pub lost_misses : List (Target × Miss) → List (ℕ × Miss)
+lost_misses [] = []
+lost_misses (one ∷ lost) = (one.0.device, one.1) ∷ lost_misses lost
+
+-- The misses of the devices that were asked, and then those of sources.
+pub record AreMisses (begun : Begun) (past : List Step) (stamp : ℕ) (lost : List (Target × Miss)) (misses : List (ℕ × Miss)) : Type 0 where
+  pub asked : List (ℕ × Miss)
+  pub misses_are : misses ≡ asked ++ lost_misses lost
+  pub asked_are : All (λ one. MissedAsk begun past one.0 one.1) asked
+  pub all_asked : (device : ℕ) (how : Miss) → MissedAsk begun past device how → Contains asked (device, how)
+  pub lost_are : All (λ one. MissedFetch begun past stamp one.0 one.1) lost
+
+-- A primary lacks its archive of the stamp that is the own floor, durable, and fewer than k archives were to be had. What was listed plain
+-- was to be made durable all the same.
 pub record IsTooFew (begun : Begun) (past : List Step) (stamp have : ℕ) (misses : List (ℕ × Miss)) : Type 0 where
   pub own : IsOwnFloor begun past (durable_at stamp)
   pub target : Target
   pub lacking : ListsNone begun past stamp target
   pub few : have < begun.cluster.policy.k
-  pub had : FewListed begun past stamp have ⊎ FewBrought begun past stamp have
-  pub misses_are : All (IsMissOf begun past stamp) misses
-  pub asks : (device : ℕ) (how : Miss) → MissedAsk begun past device how → Contains misses (device, how)
+  pub lost : List (Target × Miss)
+  pub had : FewListed begun past stamp have ⊎ FewBrought begun past stamp have lost
+  pub plain : PlainAreTold begun past stamp
+  pub misses_are : AreMisses begun past stamp lost misses
+
+-- ---- it is done
 
 -- Nothing had to be done: the own device listed no floor.
 pub record HadNothing (begun : Begun) (past : List Step) (commits rebuilt tombstones : ℕ) (failed : List Failure) : Type 0 where
@@ -288,27 +176,19 @@ pub record HadNothing (begun : Begun) (past : List Step) (commits rebuilt tombst
 pub record WasBuried (begun : Begun) (past : List Step) (commits rebuilt tombstones : ℕ) (failed : List Failure) : Type 0 where
   pub stamp : ℕ
   pub own : IsOwnFloor begun past (tombstone_floor stamp)
-  pub each : (device : ℕ) (listing : ListingModel) → Contains (primaries begun) device → WasListed begun past device listing
+  pub each : (device : ℕ) (listing : ListingModel) → is_primary begun.cluster device begun.place ≡ true → WasListed begun past device listing
       → HasFloor listing (tombstone_floor stamp) ⊎ ((answer : Option Reply) × WasTold past device (message.Delete begun.place stamp) answer)
   pub no_entries : (commits ≡ 0) × (rebuilt ≡ 0)
   pub marked : tombstones ≡ capped (count_told is_marked past)
   pub failures : AreFailures begun past failed
 
--- what was done about the entry of an index at its primary: it was listed durable; or plain, and was to be made durable; or lacking, and
--- was rebuilt, and once it was stored was to be made durable
-abbrev pub WasTreated : Begun → List Step → ℕ → Target → ListingModel → Type 0
-WasTreated begun past stamp target listing =
-    Contains listing.entries (record { stamp = stamp; index = target.index; durable = true })
-    ⊎ ((answer : Option Reply) × WasTold past target.device (message.Commit begun.place stamp target.index) answer)
-    ⊎ (ListsNone begun past stamp target × (bytes : List ℕ) × (answer : Option Reply) × WasTold past target.device (message.PutFrag begun.place stamp target.index bytes) answer × (answer ≢ Some reply.Synced))
-
--- The entries of the stamp that is the own floor, durable, were made durable at the primaries that listed them plain, and rebuilt at those
--- that listed none.
+-- The entries of the stamp that is the own floor, durable, were to be made durable at the primaries that listed them plain, and rebuilt at
+-- those that listed none.
 pub record WasRepaired (begun : Begun) (past : List Step) (commits rebuilt tombstones : ℕ) (failed : List Failure) : Type 0 where
   pub stamp : ℕ
   pub own : IsOwnFloor begun past (durable_at stamp)
-  pub each : (target : Target) (listing : ListingModel) → IsPrimaryOf begun.cluster begun.place target.index target.device → WasListed begun past target.device listing
-      → WasTreated begun past stamp target listing
+  pub plain : PlainAreTold begun past stamp
+  pub lacking : LackingAreTold begun past stamp
   pub no_tombstones : tombstones ≡ 0
   -- the indices that their primaries lacked
   pub lacked : ℕ → Bool

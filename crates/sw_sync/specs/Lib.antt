@@ -1,3 +1,4 @@
+pub mod Answers
 pub mod BurialInside
 pub mod Causes
 pub mod HeardInside
@@ -5,6 +6,7 @@ pub mod Hearing
 pub mod Inside
 pub mod Parts
 pub mod RepairInside
+pub mod Sends
 pub mod Standing
 pub mod State
 pub mod StateInside

@@ -1,5 +1,5 @@
 -- What contracts see of a sync, and the transcripts that it stands for.
-use Rattle.std.specs.Prelude.{◌≡◌, ℕ, Bool, true, false, List, [], ◌∷◌, Contains, length, slice_get, Option, Some, None, ⊤}
+use Rattle.std.specs.Prelude.{◌≡◌, ℕ, Bool, true, false, List, [], ◌∷◌, slice_get, Option, Some}
 use Rattle.std.specs.List.{All}
 use Rattle.sw_hashpath.specs.Place.{PlaceModel}
 use Rattle.sw_ring.specs.Cluster.{ClusterModel}

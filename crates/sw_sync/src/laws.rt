@@ -1,21 +1,21 @@
-//! Why syncs end as they do, as the contract of a function without arguments.
+//! What syncs do and why they end as they do, as the contract of a function without arguments.
 
 ghost use Rattle.std.specs.Prelude.{◌≡◌, ℕ, List};
-ghost use Rattle.sw_hashpath.specs.Place.{PlaceModel};
 ghost use Rattle.sw_hashdir.specs.declared.floor.Floor.{Floor as AFloor};
 ghost use Rattle.sw_message.specs.Transcript.{Hand, IsRun, Step};
-ghost use Rattle.sw_message.specs.declared.message.Msg.TheVariants.{Commit, Delete, PutFrag};
 ghost use Rattle.sw_message.specs.declared.miss.Miss.{Miss as AMiss};
 ghost use Rattle.sw_message.specs.declared.sent.Sent.{Sent as ASent};
-ghost use Rattle.sw_sync.specs.Causes.{AllAnswered, IsDone, IsNewer, IsTooFew, IsUnanswered, MayCommit, MayDelete, MayStore};
+ghost use Rattle.sw_sync.specs.Answers.{AllAnswered};
+ghost use Rattle.sw_sync.specs.Causes.{IsDone, IsNewer, IsTooFew, IsUnanswered};
+ghost use Rattle.sw_sync.specs.Sends.{IsFirst, MaySend};
 ghost use Rattle.sw_sync.specs.Sync.{Begun, IsBegun, IsEnd, IsNext};
 ghost use Rattle.sw_sync.specs.declared.sync_end.Failure.{Failure as AFailure};
 ghost use Rattle.sw_sync.specs.declared.sync_end.SyncEnd.{SyncEnd as ASyncEnd};
 ghost use Rattle.sw_sync.specs.declared.sync_end.SyncEnd.TheVariants.{Done, Newer, TooFew, Unanswered};
 
-/// Each end of a sync has its cause in what was answered, once each device of the place was asked. A tombstone goes only to primaries that
-/// listed a smaller floor or none; archives are stored only where they are lacking, rebuilt from k that were brought; and entries are made
-/// durable only where they were listed plain, or were stored.
+/// Each end of a sync has its cause in what was answered, once each device of the cluster was asked. It hands out nothing twice. A
+/// tombstone goes only to primaries that listed a smaller floor or none; archives are fetched only for primaries that lack theirs, are
+/// stored only there, rebuilt from k that were brought; and entries are made durable only where they were listed plain, or were stored.
 pub fn sync_law()
     ensures answered { (begun : Begun) (past : List Step) (end : ASyncEnd) → IsBegun begun → IsRun (IsNext begun) past → IsEnd begun past end → AllAnswered begun past }
     ensures done { (begun : Begun) (past : List Step) (commits rebuilt tombstones : ℕ) (failed : List AFailure) → IsBegun begun → IsRun (IsNext begun) past →
@@ -26,12 +26,8 @@ pub fn sync_law()
         IsEnd begun past (Newer floor) → IsNewer begun past floor }
     ensures too_few { (begun : Begun) (past : List Step) (stamp have : ℕ) (misses : List (ℕ × AMiss)) → IsBegun begun → IsRun (IsNext begun) past →
         IsEnd begun past (TooFew stamp have misses) → IsTooFew begun past stamp have misses }
-    ensures deletes { (begun : Begun) (past : List Step) (sent : ASent) (place : PlaceModel) (stamp : ℕ) → IsBegun begun → IsRun (IsNext begun) past →
-        IsNext begun past (Hand sent) → sent.msg ≡ Delete place stamp → (place ≡ begun.place) × MayDelete begun past sent.device stamp }
-    ensures stores { (begun : Begun) (past : List Step) (sent : ASent) (place : PlaceModel) (stamp index : ℕ) (bytes : List ℕ) → IsBegun begun → IsRun (IsNext begun) past →
-        IsNext begun past (Hand sent) → sent.msg ≡ PutFrag place stamp index bytes →
-        (place ≡ begun.place) × MayStore begun past (record { index = index; device = sent.device }) stamp bytes }
-    ensures commits { (begun : Begun) (past : List Step) (sent : ASent) (place : PlaceModel) (stamp index : ℕ) → IsBegun begun → IsRun (IsNext begun) past →
-        IsNext begun past (Hand sent) → sent.msg ≡ Commit place stamp index →
-        (place ≡ begun.place) × MayCommit begun past (record { index = index; device = sent.device }) stamp }
+    ensures sends { (begun : Begun) (past : List Step) (sent : ASent) → IsBegun begun → IsRun (IsNext begun) past →
+        IsNext begun past (Hand sent) → MaySend begun past sent.device sent.msg }
+    ensures first { (begun : Begun) (past : List Step) (sent : ASent) → IsBegun begun → IsRun (IsNext begun) past →
+        IsNext begun past (Hand sent) → IsFirst past sent }
 {}

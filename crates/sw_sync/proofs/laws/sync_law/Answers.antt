@@ -1,6 +1,6 @@
 use Rattle.sw_sync.specs.declared.sync_end.SyncEnd.TheVariants.{Done, Newer, TooFew, Unanswered}
 use Rattle.sw_sync.proofs.Causes.{all-answered, has-cause}
-use Rattle.sw_sync.proofs.Handed.{commits, deletes, stores}
+use Rattle.sw_sync.proofs.Handed.{is-first, may-send}
 use Rattle.sw_sync.proofs.laws.sync_law.Goals as goal
 
 pub returns-clause-answered : goal.returns-clause-answered
@@ -18,11 +18,8 @@ returns-clause-newer c = λ begun past floor valid run is. has-cause begun past 
 pub returns-clause-too_few : goal.returns-clause-too_few
 returns-clause-too_few c = λ begun past stamp have misses valid run is. has-cause begun past (TooFew stamp have misses) valid run is
 
-pub returns-clause-deletes : goal.returns-clause-deletes
-returns-clause-deletes c = λ begun past sent place stamp valid run next is. deletes begun past sent place stamp is valid run next
+pub returns-clause-sends : goal.returns-clause-sends
+returns-clause-sends c = λ begun past sent valid run next. may-send begun past sent valid run next
 
-pub returns-clause-stores : goal.returns-clause-stores
-returns-clause-stores c = λ begun past sent place stamp index bytes valid run next is. stores begun past sent place stamp index bytes is valid run next
-
-pub returns-clause-commits : goal.returns-clause-commits
-returns-clause-commits c = λ begun past sent place stamp index valid run next is. commits begun past sent place stamp index is valid run next
+pub returns-clause-first : goal.returns-clause-first
+returns-clause-first c = λ begun past sent valid run next. is-first begun past sent valid run next

@@ -1,5 +1,4 @@
 -- A sync reads its answers, and does what comes next.
-use Rattle.std.proofs.Common.{sym, ap, ◌∙◌, arith}
 use Rattle.sw_sync.proofs.Results.{matched, of_some, on_ok}
 use Rattle.sw_sync.proofs.operation.SyncJobOperation.next.Goals as goal
 

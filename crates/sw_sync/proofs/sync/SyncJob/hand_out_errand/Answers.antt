@@ -5,7 +5,7 @@ use Rattle.std.proofs.lemmas.List.Elements.{All-head}
 use Rattle.sw_message.specs.Transcript.{Gave, Step}
 use Rattle.sw_message.specs.declared.sent.Sent.{Sent}
 use Rattle.sw_sync.specs.Inside.{sync_seen}
-use Rattle.sw_sync.specs.Standing.{MayHand, Stands, SyncModel}
+use Rattle.sw_sync.specs.Standing.{Stands, SyncModel}
 use Rattle.sw_sync.specs.State.{State}
 use Rattle.sw_sync.specs.Sync.{Begun, Fits, IsMessage, IsState}
 use Rattle.sw_sync.specs.declared.errand.Errand.{Errand}

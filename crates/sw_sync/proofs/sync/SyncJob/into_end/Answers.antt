@@ -2,7 +2,6 @@
 use Rattle.std.proofs.Common.{ap, sym, subst, ◌∙◌}
 use Rattle.sw_sync.specs.Inside.{sync_seen}
 use Rattle.sw_sync.specs.Standing.{Stands, SyncModel, has_ended}
-use Rattle.sw_sync.specs.declared.sync_end.SyncEnd.{SyncEnd}
 use Rattle.sw_sync.proofs.Changes.{ended_so, some_ends}
 use Rattle.sw_sync.proofs.Results.{of_some}
 use Rattle.sw_sync.proofs.sync.SyncJob.into_end.Goals as goal
