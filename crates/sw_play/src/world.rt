@@ -247,7 +247,14 @@ impl<'a> World<'a> {
         let device = self.device_of(number).unwrap();
         let operation = self.operations.saturating_add(1);
         let cluster = self.nodes.cluster();
-        match run_recon(self.alloc, cluster, &mut self.nodes, operation, device, name) {
+        match run_recon(
+            self.alloc,
+            cluster,
+            &mut self.nodes,
+            operation,
+            device,
+            name,
+        ) {
             Ok(told) => {
                 self.operations = operation;
                 Ok(told)

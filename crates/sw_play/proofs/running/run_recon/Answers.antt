@@ -34,7 +34,7 @@ returns-then-is_some-clause-runs c =
     subst (λ (b : Bool). IfOk c.run_sync.result (λ told. (past : List Step) × RanRecon b c.args.cluster.now c.args.device c.args.name.now (is_among c.args.nodes.now.down) c.args.operation (devices_of c.args.nodes.now.nodes) past told after))
     (sym (ap (is_primary c.args.cluster.now c.args.device) (sym c.in_ok-place.ensures.place) ∙ primary))
     (subst (λ (place : PlaceModel). IfOk c.run_sync.result (λ told. (past : List Step)
-        × RanSync (record { cluster = c.args.cluster.now; device = c.args.device; place = place }) (is_among c.args.nodes.now.down) c.args.operation (devices_of c.args.nodes.now.nodes) past told after))
+    × RanSync (record { cluster = c.args.cluster.now; device = c.args.device; place = place }) (is_among c.args.nodes.now.down) c.args.operation (devices_of c.args.nodes.now.nodes) past told after))
     c.in_ok-place.ensures.place c.run_sync.ensures.runs)
 
 pub returns-else-is_some-clause-runs : goal.returns-else-is_some-clause-runs
@@ -44,5 +44,5 @@ returns-else-is_some-clause-runs c =
     subst (λ (b : Bool). IfOk c.run_revert.result (λ told. (past : List Step) × RanRecon b c.args.cluster.now c.args.device c.args.name.now (is_among c.args.nodes.now.down) c.args.operation (devices_of c.args.nodes.now.nodes) past told after))
     (sym (ap (is_primary c.args.cluster.now c.args.device) (sym c.in_ok-place.ensures.place) ∙ handoff))
     (subst (λ (place : PlaceModel). IfOk c.run_revert.result (λ told. (past : List Step)
-        × RanRevert (record { cluster = c.args.cluster.now; device = c.args.device; place = place }) (is_among c.args.nodes.now.down) c.args.operation (devices_of c.args.nodes.now.nodes) past told after))
+    × RanRevert (record { cluster = c.args.cluster.now; device = c.args.device; place = place }) (is_among c.args.nodes.now.down) c.args.operation (devices_of c.args.nodes.now.nodes) past told after))
     c.in_ok-place.ensures.place c.run_revert.ensures.runs)

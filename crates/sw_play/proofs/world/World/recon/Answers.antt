@@ -23,7 +23,7 @@ leads c before stands =
     let device = c.unwrap-device.result in
     let old = c.self.inside.nodes in
     let ran = subst (λ (cluster : ClusterModel). RanRecon (is_primary cluster device (place_of_name cluster c.args.name.now)) cluster device c.args.name.now (is_among old.down)
-        c.saturating_add-operation.result (devices_of old.nodes) c.in-Ok.ensures.runs.0 c.in-Ok.told (devices_of c.run_recon.new.nodes.nodes)) c.cluster-cluster.ensures c.in-Ok.ensures.runs.1 in
+    c.saturating_add-operation.result (devices_of old.nodes) c.in-Ok.ensures.runs.0 c.in-Ok.told (devices_of c.run_recon.new.nodes.nodes)) c.cluster-cluster.ensures c.in-Ok.ensures.runs.1 in
     subst (λ (device : ℕ). Leads c device (world_seen c.self.inside) before) is_number
     (recon_stands (world_seen c.self.inside) before stands (left_by c) c.in-Ok.ensures.cluster c.in-Ok.ensures.goes_on c.in-Ok.ensures.runs.0 c.in-Ok.told
     c.args.name.now c.saturating_add-operation.result c.saturating_add-operation.ensures refl c.in-Ok.ensures.down device (subst (IsMember (world_seen c.self.inside).cluster) (sym is_number) member) refl ran)
