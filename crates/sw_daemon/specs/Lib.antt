@@ -1,0 +1,14 @@
+pub mod Asking
+pub mod Causes
+pub mod Comparing
+pub mod ComparingInside
+pub mod CourseInside
+pub mod Coursing
+pub mod DifferingInside
+pub mod Ending
+pub mod Inside
+pub mod Pass
+pub mod Question
+pub mod Stage
+pub mod Staging
+pub mod Standing

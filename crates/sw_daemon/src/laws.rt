@@ -1,0 +1,18 @@
+//! What passes do, as the contract of a function without arguments.
+
+ghost use Rattle.std.specs.Prelude.{◌≡◌, List};
+ghost use Rattle.sw_message.specs.Transcript.{Hand, IsRun, Step};
+ghost use Rattle.sw_message.specs.declared.sent.Sent.{Sent as ASent};
+ghost use Rattle.sw_daemon.specs.Causes.{AreOnce, IsWhole, MaySend};
+ghost use Rattle.sw_daemon.specs.Pass.{Begun, IsBegun, IsEnd, IsNext};
+ghost use Rattle.sw_daemon.specs.declared.report.PassReport.{PassReport as AReport};
+
+/// A pass runs jobs only on places that its own device holds: where that is a primary of the place, only if another primary missed or
+/// differs at the place's suffix. At its end each partition that its own device listed, none of them twice, was treated, and a job was
+/// run on each place that it holds as a handoff, and on each that it holds as a primary and at whose suffix another primary differs.
+pub fn pass_law()
+    ensures sends { (begun : Begun) (past : List Step) (sent : ASent) → IsBegun begun → IsRun (IsNext begun) past →
+        IsNext begun past (Hand sent) → MaySend begun past sent.device sent.msg }
+    ensures whole { (begun : Begun) (past : List Step) (report : AReport) → IsBegun begun → IsRun (IsNext begun) past →
+        IsEnd begun past report → AreOnce begun past → IsWhole begun past }
+{}

@@ -1,0 +1,84 @@
+//! Passes of reconstructors over the nodes of a cluster.
+
+ghost use Rattle.std.specs.Prelude.{IfSome};
+ghost use Rattle.sw_message.specs.Message.{IsMember};
+
+use std::alloc::Global;
+use std::test::Fail;
+use sw_daemon::{PassReport, pass};
+use sw_nodes::{Nodes, run_alone};
+use sw_put::PutOp;
+use sw_ring::{Cluster, built_in};
+use sw_types::{Bytes, Head, Name, Object, Stamp};
+
+const NOTHING: PassReport = PassReport {
+    synced: 0,
+    rebuilt: 0,
+    removed: 0,
+    kept: 0,
+    missed: 0,
+};
+
+// Puts an object of three bytes as `a/c/o`.
+fn put(alloc: Global, nodes: &mut Nodes<'_>) -> Result<(), Fail> {
+    let name = Name::make(alloc, b"a", b"c", b"o")?;
+    let head = Head::make(alloc, b"text/plain", &[])?;
+    let body = Bytes::from_slice(alloc, b"abc")?;
+    let object = Object::make(head, body).ok().ok_or("too long")?;
+    let stamp = Stamp::make(100_000_000_000_000).ok_or("stamp")?;
+    let mut op = PutOp::begin(alloc, nodes.cluster(), stamp, &name, &object)?;
+    run_alone(&mut op, nodes)?;
+    Ok(())
+}
+
+// The device at a place of a ring.
+fn device_at(cluster: &Cluster, place: usize) -> Option<u16>
+    ensures { IfSome result (IsMember cluster.now) }
+{
+    let devices = cluster.devices();
+    if place >= devices.len() {
+        return None;
+    }
+    Some(devices[place].id)
+}
+
+// A pass of the device at this place.
+fn passed(alloc: Global, nodes: &mut Nodes<'_>, place: usize) -> Result<PassReport, Fail> {
+    let cluster = nodes.cluster();
+    let own = device_at(cluster, place).ok_or("no device")?;
+    Ok(pass(alloc, cluster, own, nodes)?)
+}
+
+// A handoff brings home what it took for a primary, once; primaries that agree do nothing; and one rebuilds what another one lost.
+#[test]
+fn repair_what_devices_missed(rt: HostRuntime) -> Result<(), Fail> {
+    let alloc = rt.alloc();
+    let cluster = Cluster::read(alloc, built_in())?;
+    let mut nodes = Nodes::new(alloc, &cluster)?;
+    nodes.stop(1)?;
+    put(alloc, &mut nodes)?;
+    nodes.restart(1)?;
+    let home = PassReport {
+        removed: 1,
+        ..NOTHING
+    };
+    assert_eq!(rt; passed(alloc, &mut nodes, 3)?, home);
+    assert_eq!(rt; passed(alloc, &mut nodes, 3)?, NOTHING);
+    assert_eq!(rt; passed(alloc, &mut nodes, 0)?, NOTHING);
+    nodes.lose(1)?;
+    let rebuilt = PassReport {
+        synced: 1,
+        rebuilt: 1,
+        ..NOTHING
+    };
+    assert_eq!(rt; passed(alloc, &mut nodes, 0)?, rebuilt);
+    assert_eq!(rt; passed(alloc, &mut nodes, 2)?, NOTHING);
+    nodes.stop(2)?;
+    let missed = PassReport {
+        synced: 1,
+        missed: 1,
+        ..NOTHING
+    };
+    assert_eq!(rt; passed(alloc, &mut nodes, 0)?, missed);
+    Ok(())
+}
