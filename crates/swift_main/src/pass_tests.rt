@@ -1,6 +1,6 @@
 //! Passes of reconstructors over the nodes of a cluster.
 
-ghost use Rattle.std.specs.Prelude.{IfSome};
+ghost use Rattle.std.specs.Prelude.{◌≡◌, IfSome, OnOk, false};
 ghost use Rattle.sw_message.specs.Message.{IsMember};
 
 use std::alloc::Global;
@@ -20,7 +20,10 @@ const NOTHING: PassReport = PassReport {
 };
 
 // Puts an object of three bytes as `a/c/o`.
-fn put(alloc: Global, nodes: &mut Nodes<'_>) -> Result<(), Fail> {
+fn put(alloc: Global, nodes: &mut Nodes<'_>) -> Result<(), Fail>
+    ensures goes_on { OnOk result (nodes.new.is_wanting ≡ false) }
+    ensures cluster { OnOk result (nodes.new.cluster ≡ nodes.old.cluster) }
+{
     let name = Name::make(alloc, b"a", b"c", b"o")?;
     let head = Head::make(alloc, b"text/plain", &[])?;
     let body = Bytes::from_slice(alloc, b"abc")?;
@@ -43,7 +46,9 @@ fn device_at(cluster: &Cluster, place: usize) -> Option<u16>
 }
 
 // A pass of the device at this place.
-fn passed(alloc: Global, nodes: &mut Nodes<'_>, place: usize) -> Result<PassReport, Fail> {
+fn passed(alloc: Global, nodes: &mut Nodes<'_>, place: usize) -> Result<PassReport, Fail>
+    ensures cluster { OnOk result (nodes.new.cluster ≡ nodes.old.cluster) }
+{
     let cluster = nodes.cluster();
     let own = device_at(cluster, place).ok_or("no device")?;
     Ok(pass(alloc, cluster, own, nodes)?)
@@ -55,9 +60,10 @@ fn repair_what_devices_missed(rt: HostRuntime) -> Result<(), Fail> {
     let alloc = rt.alloc();
     let cluster = Cluster::read(alloc, built_in())?;
     let mut nodes = Nodes::new(alloc, &cluster)?;
-    nodes.stop(1)?;
+    let one = device_at(&cluster, 1).ok_or("no device")?;
+    nodes.stop(one)?;
     put(alloc, &mut nodes)?;
-    nodes.restart(1)?;
+    nodes.restart(one)?;
     let home = PassReport {
         removed: 1,
         ..NOTHING
@@ -65,7 +71,7 @@ fn repair_what_devices_missed(rt: HostRuntime) -> Result<(), Fail> {
     assert_eq!(rt; passed(alloc, &mut nodes, 3)?, home);
     assert_eq!(rt; passed(alloc, &mut nodes, 3)?, NOTHING);
     assert_eq!(rt; passed(alloc, &mut nodes, 0)?, NOTHING);
-    nodes.lose(1)?;
+    nodes.lose(one)?;
     let rebuilt = PassReport {
         synced: 1,
         rebuilt: 1,
@@ -73,7 +79,7 @@ fn repair_what_devices_missed(rt: HostRuntime) -> Result<(), Fail> {
     };
     assert_eq!(rt; passed(alloc, &mut nodes, 0)?, rebuilt);
     assert_eq!(rt; passed(alloc, &mut nodes, 2)?, NOTHING);
-    nodes.stop(2)?;
+    nodes.stop(one)?;
     let missed = PassReport {
         synced: 1,
         missed: 1,
