@@ -2,6 +2,7 @@
 use Rattle.std.proofs.Common.{◌≡◌, ◌≢◌, ◌⊎◌, inl, inr, ℕ, ◌<◌, ◌^◌, false, Contains, List, [], ◌∷◌, ◌++◌, filter, Option, Some, None, refl, sym, subst, arith}
 use Rattle.std.specs.List.{All}
 use Rattle.std.proofs.lemmas.List.Elements.{Contains-append_left, Contains-push, Contains-push_cases}
+use Rattle.sw_gather.proofs.Lists.{none_in}
 use Rattle.sw_hashpath.specs.Place.{PlaceModel}
 use Rattle.sw_suffix.specs.Suffix.{suffix_number}
 use Rattle.sw_suffix.specs.Table.{Hashed, hash_at}
@@ -13,9 +14,6 @@ use Rattle.sw_daemon.specs.Pass as passes
 use Rattle.sw_daemon.specs.Pass.{AreDue, Differs}
 use Rattle.sw_daemon.specs.declared.task.Task.{Task}
 use Rattle.sw_daemon.specs.declared.task.Task.TheVariants.{ListOther}
-
-none_in : {A : Type 0} (x : A) → Contains [] x → ⊥
-none_in x (k, within, is) = omega (arith, within)
 
 -- ---- what a comparison stands for
 

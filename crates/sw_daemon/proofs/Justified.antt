@@ -15,7 +15,8 @@ use Rattle.sw_message.specs.declared.reply.Reply.{Reply}
 use Rattle.sw_message.specs.declared.reply.Reply.TheVariants as reply
 use Rattle.sw_gather.proofs.Lists.{from_filter, here, none_in}
 use Rattle.sw_sync.proofs.Messages.{told-later}
-use Rattle.sw_daemon.specs.Causes.{DiffersAt, IsDifferent, IsHeld, IsPart, IsPrimaryOf, MayTreat, WasTold}
+use Rattle.sw_sync.specs.Answers.{WasTold}
+use Rattle.sw_daemon.specs.Causes.{DiffersAt, IsDifferent, IsHeld, IsPart, IsPrimaryIn, MayTreat}
 use Rattle.sw_daemon.specs.Pass.{AfterOther, AfterOwn, AreDue, AsksOn, Begun, Course, Differs, DiffersIn, Does, Ends, FollowsAnswer, ListOther, ListOwn, ListParts, ListPlaces, Status, Task, Treat, after_parts, after_places, begin_part, is_of_part, is_of_ring, missed, most_parts, most_places, next_part, next_place, others_of}
 use Rattle.sw_daemon.specs.declared.report.PassReport.{PassReport}
 use Rattle.sw_daemon.proofs.Later.{held-later, part-later, treat-later}
@@ -23,7 +24,7 @@ use Rattle.sw_daemon.proofs.Later.{held-later, part-later, treat-later}
 -- ---- what is known
 
 abbrev pub IsOther : Begun → (part device : ℕ) → Type 0
-IsOther begun part device = (device ≢ begun.device) × IsPrimaryOf begun part device
+IsOther begun part device = (device ≢ begun.device) × IsPrimaryIn begun part device
 
 -- the suffixes that an answer lists
 abbrev pub hashes_in : Option Reply → Option (List Hashed)
@@ -41,7 +42,7 @@ pub record WasHeard (begun : Begun) (past : List Step) (part : ℕ) (hashes : Op
 -- the other primaries of a partition are asked for their suffixes
 pub record IsCompared (begun : Begun) (past : List Step) (part : ℕ) (own : List Hashed) (heard : List (Option (List Hashed))) (others : List ℕ) : Type 0 where
   pub is_part : IsPart begun past part
-  pub primary : IsPrimaryOf begun part begun.device
+  pub primary : IsPrimaryIn begun part begun.device
   pub own_told : WasTold past begun.device (message.Suffixes part) (Some (reply.SuffixList own))
   pub were_heard : (hashes : Option (List Hashed)) → Contains heard hashes → WasHeard begun past part hashes
   pub are_others : (device : ℕ) → Contains others device → IsOther begun part device
@@ -49,7 +50,7 @@ pub record IsCompared (begun : Begun) (past : List Step) (part : ℕ) (own : Lis
 abbrev pub IsTaskOf : Begun → List Step → Task → Type 0
 IsTaskOf begun past ListParts = ⊤
 IsTaskOf begun past (ListPlaces part) = IsPart begun past part
-IsTaskOf begun past (ListOwn part) = IsPart begun past part × IsPrimaryOf begun part begun.device
+IsTaskOf begun past (ListOwn part) = IsPart begun past part × IsPrimaryIn begun part begun.device
 IsTaskOf begun past (ListOther part own heard device others) = IsCompared begun past part own heard (device ∷ others)
 IsTaskOf begun past (Treat place) = MayTreat begun past place
 
@@ -209,7 +210,7 @@ module _ (begun : Begun) (past : List Step) where
         among-from_Contains (column_of begun.cluster part) device kept.0,
       )
 
-  own-follow : (part : ℕ) (places : List PlaceModel) (parts : List ℕ) (report : PassReport) (answer : Option Reply) → IsPart begun past part → IsPrimaryOf begun part begun.device
+  own-follow : (part : ℕ) (places : List PlaceModel) (parts : List ℕ) (report : PassReport) (answer : Option Reply) → IsPart begun past part → IsPrimaryIn begun part begun.device
       → ((place : PlaceModel) → Contains places place → IsHeldIn begun past part place) → AreParts parts → WasTold past begun.device (message.Suffixes part) answer
       → (status : Status) → AfterOwn begun part (record { task = ListOwn part; places = places; parts = parts; report = report }) answer status → IsStill status
   own-follow part places parts report (Some (reply.SuffixList own)) is primary held are told status follows = asked-on part own [] places held parts are report (others_of begun part) (record {

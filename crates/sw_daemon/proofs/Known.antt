@@ -20,7 +20,8 @@ use Rattle.sw_sync.specs.declared.errand.Errand.TheVariants as errand
 use Rattle.sw_sync.specs.declared.stage.Stage as sync_stage
 use Rattle.sw_sync.specs.declared.stage.Stage.TheVariants as sync
 use Rattle.sw_sync.proofs.Messages.{told-later}
-use Rattle.sw_daemon.specs.Causes.{MaySend, MaySendOf, WasTold}
+use Rattle.sw_sync.specs.Answers.{WasTold}
+use Rattle.sw_daemon.specs.Causes.{MaySend, MaySendOf}
 use Rattle.sw_daemon.specs.Pass.{Begun, Does, Follows, Gives, IsNext, IsState, ListOther, ListOwn, ListParts, ListPlaces, State, Status, Takes, Task, Treat, Turns, asks, empty_report, renumbered, reported, stage_of, treats}
 use Rattle.sw_daemon.specs.Question as questions
 use Rattle.sw_daemon.specs.Stage as stages

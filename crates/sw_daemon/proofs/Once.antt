@@ -18,7 +18,8 @@ use Rattle.sw_message.specs.declared.reply.Reply.TheVariants as reply
 use Rattle.sw_message.specs.declared.sent.Sent.{Sent}
 use Rattle.sw_gather.proofs.Lists.{here, none_in}
 use Rattle.sw_sync.proofs.Messages.{IsThis, as-told, told-cases, told-gave, told-later}
-use Rattle.sw_daemon.specs.Causes.{AreOnce, WasTold}
+use Rattle.sw_sync.specs.Answers.{WasTold}
+use Rattle.sw_daemon.specs.Causes.{AreOnce}
 use Rattle.sw_daemon.specs.Pass.{AfterOther, AfterOwn, AsksOn, Begun, Does, Ends, FollowsAnswer, IsBegun, ListOther, ListOwn, ListParts, ListPlaces, Status, Task, Treat, after_parts, after_places, asks, begin_part, is_of_part, is_of_ring, missed, most_parts, most_places, next_part, next_place, others_of, stage_of}
 use Rattle.sw_daemon.specs.Question.{message_of}
 use Rattle.sw_daemon.specs.Stage as stages

@@ -8,9 +8,9 @@ use Rattle.sw_message.specs.declared.sent.Sent.{Sent}
 use Rattle.sw_gather.proofs.Lists.{here, none_in}
 use Rattle.sw_sync.proofs.Messages.{told-cases, told-gave}
 use Rattle.sw_daemon.specs.Asking.{was_told}
-use Rattle.sw_daemon.specs.Causes.{WasTold}
 use Rattle.sw_daemon.specs.Question.{Begun, IsEnd, IsNext, message_of, sent_of}
 use Rattle.sw_daemon.proofs.Opened.{open-is}
+use Rattle.sw_sync.specs.Answers.{WasTold}
 
 module _ (begun : Begun) where
   pub hands-own : (past : List Step) (sent : Sent) → IsNext begun past (Hand sent) → sent ≡ sent_of begun

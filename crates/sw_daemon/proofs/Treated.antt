@@ -14,7 +14,8 @@ use Rattle.sw_message.specs.declared.reply.Reply.{Reply}
 use Rattle.sw_message.specs.declared.reply.Reply.TheVariants as reply
 use Rattle.sw_gather.proofs.Lists.{first_or_later, in_filter, none_in}
 use Rattle.sw_sync.proofs.Messages.{told-later}
-use Rattle.sw_daemon.specs.Causes.{IsPrimaryOf, WasTold, WasTreated}
+use Rattle.sw_sync.specs.Answers.{WasTold}
+use Rattle.sw_daemon.specs.Causes.{IsPrimaryIn, WasTreated}
 use Rattle.sw_daemon.specs.Pass.{AfterOther, AfterOwn, AreDue, AsksOn, Begun, Differs, Does, Ends, FollowsAnswer, ListOther, ListOwn, ListParts, ListPlaces, Status, Task, Treat, after_parts, after_places, begin_part, is_of_part, is_of_ring, missed, most_parts, most_places, next_part, next_place, others_of}
 use Rattle.sw_daemon.specs.declared.report.PassReport.{PassReport}
 use Rattle.sw_daemon.proofs.Justified.{IsAnswer, hashes_in}
@@ -48,7 +49,7 @@ pub record OwnBut (begun : Begun) (past : List Step) (left : List PlaceModel) (p
 pub record TreatedBut (begun : Begun) (past : List Step) (left : List PlaceModel) (part : ℕ) : Type 0 where
   pub answer : Option Reply
   pub told : WasTold past begun.device (message.Places part) answer
-  pub by_primary : (places : List PlaceModel) → answer ≡ Some (reply.PlaceList places) → IsPrimaryOf begun part begun.device → OwnBut begun past left part (places_of begun part places)
+  pub by_primary : (places : List PlaceModel) → answer ≡ Some (reply.PlaceList places) → IsPrimaryIn begun part begun.device → OwnBut begun past left part (places_of begun part places)
   pub by_handoff : (places : List PlaceModel) → answer ≡ Some (reply.PlaceList places) → is_among (column_of begun.cluster part) begun.device ≡ false
       → (place : PlaceModel) → Contains (places_of begun part places) place → IsTreatedBut begun past left place
 
@@ -82,7 +83,7 @@ IsListing begun past parts left = (answer : Option Reply) × WasTold past begun.
 
 -- the own device is a primary of a partition, and listed these places of it
 pub record HasPlaces (begun : Begun) (past : List Step) (part : ℕ) (places : List PlaceModel) : Type 0 where
-  pub primary : IsPrimaryOf begun part begun.device
+  pub primary : IsPrimaryIn begun part begun.device
   pub listed : List PlaceModel
   pub told : WasTold past begun.device (message.Places part) (Some (reply.PlaceList listed))
   pub places_are : places ≡ places_of begun part listed
@@ -193,7 +194,7 @@ module _ (begun : Begun) (past : List Step) where
             inl (subst (λ (all : List PlaceModel). Contains (places_of begun part all) place) (sym these) there);
       }
 
-      by-primary : (left : List PlaceModel) → IsPrimaryOf begun part begun.device → OwnBut begun past left part (places_of begun part listed) → TreatedBut begun past left part
+      by-primary : (left : List PlaceModel) → IsPrimaryIn begun part begun.device → OwnBut begun past left part (places_of begun part listed) → TreatedBut begun past left part
       by-primary left primary own = record {
         answer = Some (reply.PlaceList listed);
         told = told;

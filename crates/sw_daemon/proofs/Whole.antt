@@ -14,7 +14,8 @@ use Rattle.sw_message.specs.declared.reply.Reply.TheVariants as reply
 use Rattle.sw_message.specs.declared.sent.Sent.{Sent}
 use Rattle.sw_gather.proofs.Lists.{in_filter, none_in}
 use Rattle.sw_sync.proofs.Messages.{told-later}
-use Rattle.sw_daemon.specs.Causes.{AreOnce, DiffersAt, IsDifferent, IsHeld, IsPart, IsPrimaryOf, IsWhole, ListsPlaces, ListsSuffixes, WasAsked, WasTold, WasTreated}
+use Rattle.sw_sync.specs.Answers.{WasTold}
+use Rattle.sw_daemon.specs.Causes.{AreOnce, DiffersAt, IsDifferent, IsHeld, IsPart, IsPrimaryIn, IsWhole, ListsPlaces, ListsSuffixes, WasAsked, WasTreated}
 use Rattle.sw_daemon.specs.Pass.{Begun, DiffersIn, Does, Ends, Follows, Gives, IsBegun, IsEnd, IsNext, IsState, ListOther, ListOwn, ListParts, ListPlaces, State, Status, Takes, Task, Treat, Turns, is_of_part, is_of_ring, most_parts, most_places, others_of, renumbered, reported, stage_of}
 use Rattle.sw_daemon.specs.Stage as stages
 use Rattle.sw_daemon.specs.Stage.{Answered, End}
@@ -120,22 +121,22 @@ module _ (begun : Begun) (past : List Step) (once : IsOnce past) (listing : IsLi
   done place (inr was) = was
 
   module _ (part : ℕ) (is : IsPart begun past part) where
-    own-asked : (places : List PlaceModel) → IsPrimaryOf begun part begun.device → WasTold past begun.device (message.Places part) (Some (reply.PlaceList places)) → OwnBut begun past [] part (places_of begun part places)
+    own-asked : (places : List PlaceModel) → IsPrimaryIn begun part begun.device → WasTold past begun.device (message.Places part) (Some (reply.PlaceList places)) → OwnBut begun past [] part (places_of begun part places)
     own-asked places primary told =
         let treated = part-treated part is in
         treated.by_primary places (once begun.device (message.Places part) refl treated.answer (Some (reply.PlaceList places)) treated.told told) primary
 
-    were-compared : (places : List PlaceModel) (own : List Hashed) → IsPrimaryOf begun part begun.device → WasTold past begun.device (message.Places part) (Some (reply.PlaceList places))
+    were-compared : (places : List PlaceModel) (own : List Hashed) → IsPrimaryIn begun part begun.device → WasTold past begun.device (message.Places part) (Some (reply.PlaceList places))
         → WasTold past begun.device (message.Suffixes part) (Some (reply.SuffixList own)) → ComparedBut begun past [] part (places_of begun part places) own
     were-compared places own primary told own_told =
         let asked = own-asked places primary told in
         asked.compared own (once begun.device (message.Suffixes part) refl asked.answer (Some (reply.SuffixList own)) asked.told own_told)
 
-    is-other : (device : ℕ) → device ≢ begun.device → IsPrimaryOf begun part device → Contains (others_of begun part) device
+    is-other : (device : ℕ) → device ≢ begun.device → IsPrimaryIn begun part device → Contains (others_of begun part) device
     is-other device other primary =
         in_filter (λ id. not (id == begun.device)) (column_of begun.cluster part) device (Contains-from_among (column_of begun.cluster part) device primary) (ap not (ne_eqb device begun.device other))
 
-    other-asked : (device : ℕ) → IsPrimaryOf begun part begun.device → ListsPlaces begun past part → ListsSuffixes begun past part → IsPrimaryOf begun part device → WasAsked past device (message.Suffixes part)
+    other-asked : (device : ℕ) → IsPrimaryIn begun part begun.device → ListsPlaces begun past part → ListsSuffixes begun past part → IsPrimaryIn begun part device → WasAsked past device (message.Suffixes part)
     other-asked device primary (places, told) (own, own_told) is_primary = elim (cases_Bool (device == begun.device)) [
       | inl same ↦
           let asked = own-asked places primary told in

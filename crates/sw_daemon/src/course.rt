@@ -24,7 +24,7 @@ use sw_types::{Items, NoMemory};
 
 /// The task of a pass, the places of the partition and the partitions that are treated after it, and what is to be reported.
 #[derive(Debug, Drop)]
-pub struct Course {
+pub(crate) struct Course {
     pub(crate) task: Task,
     places: VecDeque<Place>,
     parts: VecDeque<u32>,

@@ -7,9 +7,10 @@ ghost use Rattle.sw_daemon.specs.Causes.{AreOnce, IsWhole, MaySend};
 ghost use Rattle.sw_daemon.specs.Pass.{Begun, IsBegun, IsEnd, IsNext};
 ghost use Rattle.sw_daemon.specs.declared.report.PassReport.{PassReport as AReport};
 
-/// A pass runs jobs only on places that its own device holds: where that is a primary of the place, only if another primary missed or
-/// differs at the place's suffix. At its end each partition that its own device listed, none of them twice, was treated, and a job was
-/// run on each place that it holds as a handoff, and on each that it holds as a primary and at whose suffix another primary differs.
+/// A pass sends messages only about places that its own device listed: where that is a primary of the place, only if another primary
+/// missed or differs at the place's suffix. At its end, where no partition was listed twice, each that is treated was asked for, and the
+/// own device was asked about each of its places as a handoff, and as a primary about each at whose suffix another one missed or differs,
+/// as each job begins.
 pub fn pass_law()
     ensures sends { (begun : Begun) (past : List Step) (sent : ASent) → IsBegun begun → IsRun (IsNext begun) past →
         IsNext begun past (Hand sent) → MaySend begun past sent.device sent.msg }
