@@ -1,9 +1,7 @@
 -- Syncs and reverts that run alone.
 use Rattle.std.proofs.Common.{◌≡◌, ℕ, Bool, true, false, List, [], refl, sym, subst}
 use Rattle.sw_message.specs.Learnt.{Booked, IsSoundBook, Learnt}
-use Rattle.sw_message.specs.Message.{IsPlaceOf, place_in}
 use Rattle.sw_message.specs.Transcript.{Hand, IsRun, Step, is_waiting}
-use Rattle.sw_message.specs.Warrant.{IsWarranted}
 use Rattle.sw_message.specs.declared.sent.Sent.{Sent}
 use Rattle.sw_recon.specs.Revert as reverts
 use Rattle.sw_recon.specs.Standing as revert_standing
@@ -19,7 +17,7 @@ use Rattle.sw_scene.proofs.Alone.{HandsWarranted, alone}
 
 -- ---- syncs
 
-sync-hands : (begun : syncs.Begun) (learnt : Learnt) → syncs.IsBegun begun → HandsWarranted begun.cluster (syncs.IsNext begun) learnt
+pub sync-hands : (begun : syncs.Begun) (learnt : Learnt) → syncs.IsBegun begun → HandsWarranted begun.cluster (syncs.IsNext begun) learnt
 sync-hands begun learnt valid = λ past sent run known next.
     let hands = next.2.2 in (
       (machine.hands_of begun valid past next.0 next.2.1 sent run next.1 hands).place,
@@ -54,7 +52,7 @@ module _ (begun : reverts.Begun) (learnt : Learnt) (valid : reverts.IsBegun begu
   may_send : reverts.IsNext begun past (Hand sent) → MaySend
   may_send next = by_waiting (is_waiting past) refl next next
 
-revert-hands : (begun : reverts.Begun) (learnt : Learnt) → reverts.IsBegun begun → HandsWarranted begun.cluster (reverts.IsNext begun) learnt
+pub revert-hands : (begun : reverts.Begun) (learnt : Learnt) → reverts.IsBegun begun → HandsWarranted begun.cluster (reverts.IsNext begun) learnt
 revert-hands begun learnt valid = λ past sent run known next. let may = may_send begun learnt valid past sent run next in (may.of.place, may.warranted learnt known)
 
 pub revert-alone : (begun : reverts.Begun) (book : List Booked) (down : ℕ → Bool) (before after : Devices) (past : List Step) → reverts.IsBegun begun → IsSoundBook begun.cluster.policy book

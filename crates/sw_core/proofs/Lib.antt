@@ -1,2 +1,11 @@
+pub mod Handing
+pub mod Happening
 pub mod Jobs
+pub mod Machines
+pub mod Numbered
 pub mod Operations
+pub mod Proceeding
+pub mod Runs
+pub mod Starting
+pub mod Telling
+pub mod Transcripts

@@ -31,7 +31,7 @@ use Rattle.sw_scene.proofs.Alone.{HandsWarranted, alone}
 
 -- ---- puts
 
-put-hands : (begun : puts.Begun) (learnt : Learnt) → puts.IsBegun begun → Contains learnt.book (record { stamp = begun.stamp; name = begun.name; object = begun.object })
+pub put-hands : (begun : puts.Begun) (learnt : Learnt) → puts.IsBegun begun → Contains learnt.book (record { stamp = begun.stamp; name = begun.name; object = begun.object })
     → HandsWarranted begun.cluster (puts.IsNext begun) learnt
 put-hands begun learnt valid has = λ past sent run known next.
     let is = (put_transcripts.handed begun past sent next).1 in
@@ -46,7 +46,7 @@ put-alone begun book down before after past valid sound has were runs =
 
 -- ---- deletes
 
-delete-hands : (begun : deletes.Begun) (learnt : Learnt) → deletes.IsBegun begun → Contains learnt.marks (record { stamp = begun.stamp; name = begun.name })
+pub delete-hands : (begun : deletes.Begun) (learnt : Learnt) → deletes.IsBegun begun → Contains learnt.marks (record { stamp = begun.stamp; name = begun.name })
     → HandsWarranted begun.cluster (deletes.IsNext begun) learnt
 delete-hands begun learnt valid has = λ past sent run known next.
     let is = (delete_transcripts.handed begun past sent next).1 in
@@ -90,7 +90,7 @@ module _ (begun : gets.Begun) (learnt : Learnt) (sent : Sent) where
   sends turns (going.End ending) same = absurd (cc)
   sends turns (going.Keep event) same = asks_again (nat_lt (length (gets.events begun turns)) gets.most_kept) (gets.sends turns) (slice_get (all_devices (gets.devices begun)) 0) same
 
-get-hands : (begun : gets.Begun) (learnt : Learnt) → HandsWarranted begun.cluster (gets.IsNext begun) learnt
+pub get-hands : (begun : gets.Begun) (learnt : Learnt) → HandsWarranted begun.cluster (gets.IsNext begun) learnt
 get-hands begun learnt = λ past sent run known next. sends begun learnt sent next.0 (gets.going_in begun next.0) next.2
 
 module _ (begun : gets.Begun) (book : List Booked) (marks : List Marked) (down : ℕ → Bool) (before after : Devices) (past : List Step) (valid : gets.IsBegun begun) (sound : IsSoundBook begun.cluster.policy book) (were : AreFiled begun.cluster book before) (runs : RunsAlone begun.cluster down (gets.IsNext begun) before past after) where

@@ -1,6 +1,6 @@
-//! Operations over the scene of a cluster: what they leave in the files, and what gets find.
+//! The world of a cluster: its scene and its operations, what may happen to it, and what holds whatever does.
 #![tactic(auto)]
 
 mod laws;
 
-pub use crate::laws::{alone_law, found_law};
+pub use crate::laws::{alone_law, found_law, run_law, tickets_law};

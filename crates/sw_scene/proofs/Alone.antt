@@ -10,12 +10,13 @@ use Rattle.sw_message.specs.declared.sent.Sent.{Sent}
 use Rattle.sw_scene.specs.Devices.{Devices}
 use Rattle.sw_scene.specs.Filed.{AreFiled}
 use Rattle.sw_scene.specs.Running.{AreHandled, heard_of}
+use Rattle.sw_scene.specs.Sound.{MayBeSent}
 use Rattle.sw_scene.proofs.Filed.{filed, genuine, same_filed}
 
 -- each message that the machine hands out is about a right place and is warranted, where its replies so far are known
 abbrev pub HandsWarranted : ClusterModel → (List Step → Next → Type 0) → Learnt → Type 0
 HandsWarranted cluster machine learnt =
-    (past : List Step) (sent : Sent) → IsRun machine past → AreKnown cluster learnt past → machine past (Hand sent) → IsPlaceOf cluster (place_in sent.msg) × IsWarranted cluster learnt sent.msg
+    (past : List Step) (sent : Sent) → IsRun machine past → AreKnown cluster learnt past → machine past (Hand sent) → MayBeSent cluster learnt sent.msg
 
 module _ (cluster : ClusterModel) (down : ℕ → Bool) (machine : List Step → Next → Type 0) (learnt : Learnt) (sound : IsSoundBook cluster.policy learnt.book) (hands : HandsWarranted cluster machine learnt) (before : Devices) (were : AreFiled cluster learnt.book before) where
   pub alone : (past : List Step) (after : Devices) → IsRun machine past → AreHandled cluster down before past after → ((one : Heard) → Contains (heard_of past) one → Contains learnt.heard one)

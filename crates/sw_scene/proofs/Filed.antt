@@ -16,12 +16,12 @@ use Rattle.sw_message.specs.Warrant.{IsWarranted}
 use Rattle.sw_message.specs.declared.message.Msg.{Msg}
 use Rattle.sw_message.specs.declared.message.Msg.TheVariants as message
 use Rattle.sw_message.specs.declared.reply.Reply.{Reply}
-use Rattle.sw_scene.specs.Devices.{AreSame, Devices, IsHandledBy}
-use Rattle.sw_scene.specs.Filed.{AreFiled, IsFiled}
+use Rattle.sw_scene.specs.Devices.{AreSame, Devices, IsDeviceStep, IsHandledBy}
+use Rattle.sw_scene.specs.Filed.{AreFiled, FoldersFiled, IsFiled}
 use Rattle.sw_scene.proofs.Changed.{all_changed-kept}
 use Rattle.sw_scene.proofs.Leaving.{Leave}
 use Rattle.sw_scene.proofs.Places.{one_place}
-use Rattle.sw_scene.proofs.Rows.{FineAt, FoldersFiled, handled-fine}
+use Rattle.sw_scene.proofs.Rows.{FineAt, handled-fine}
 
 -- what is about no place shows no archive
 surveyed-genuine : (cluster : ClusterModel) (learnt : Learnt) (power : ℕ) (HasAFile : List ℕ → Type 0) (AreFloors : List (PlaceModel × Floor) → Type 0) (msg : Msg) (reply : Reply)
@@ -61,13 +61,16 @@ module _ (cluster : ClusterModel) (learnt : Learnt) (before after : Folders) (we
         subst (IsGenuine cluster learnt) (sym step.replied) row.1,
       )
 
+  pub stepped : (device : ℕ) (msg : Msg) (reply : Reply) → IsSoundBook cluster.policy learnt.book → IsPlaceOf cluster (place_in msg) → IsDeviceStep cluster device msg reply before after
+      → (IsWarranted cluster learnt msg → FoldersFiled cluster learnt.book after) × IsGenuine cluster learnt reply
+  stepped device msg reply sound right is =
+      step-fine device is.room msg reply (place_in msg) right (λ found handling row. handled-fine cluster learnt sound before were device is.room found handling msg row) is.step
+
+-- ---- the folders of all devices
+
 module _ (cluster : ClusterModel) (learnt : Learnt) (device : ℕ) (msg : Msg) (reply : Reply) (before after : Devices) (sound : IsSoundBook cluster.policy learnt.book) (were : AreFiled cluster learnt.book before) (right : IsPlaceOf cluster (place_in msg)) where
   handled : IsHandledBy cluster device msg reply before after → (IsWarranted cluster learnt msg → FoldersFiled cluster learnt.book (after device)) × IsGenuine cluster learnt reply
-  handled is =
-      step-fine cluster learnt (before device) (after device) (were device) device is.room msg reply (place_in msg) right
-      (λ found handling row. handled-fine cluster learnt sound (before device) (were device) device is.room found handling msg row) is.step
-
-  -- ---- the folders of all devices
+  handled is = stepped cluster learnt (before device) (after device) (were device) device msg reply sound right is.handles
 
   pub filed : IsWarranted cluster learnt msg → IsHandledBy cluster device msg reply before after → AreFiled cluster learnt.book after
   filed warranted is = λ other place is_place. elim (cases_eq other device) [

@@ -1,8 +1,13 @@
 pub mod Alone
 pub mod Changed
+pub mod DeviceMoves
 pub mod Filed
 pub mod Genuine
+pub mod Growth
+pub mod Held
+pub mod Knowledge
 pub mod Leaving
 pub mod Places
 pub mod Rows
+pub mod Sounds
 pub mod Tombstones

@@ -9,14 +9,14 @@ use Rattle.sw_hashpath.specs.Place.{IsPlace, PlaceModel, folder_of}
 use Rattle.sw_hashpath.specs.declared.file_name.FileName.TheVariants.{Data}
 use Rattle.sw_diskfile.specs.Changes.{new_file}
 use Rattle.sw_ring.specs.Cluster.{ClusterModel}
-use Rattle.sw_message.specs.Learnt.{Booked, IsGenuine, IsSoundBook, Learnt}
+use Rattle.sw_message.specs.Learnt.{IsGenuine, IsSoundBook, Learnt}
 use Rattle.sw_message.specs.Message.{is_primary, place_in}
 use Rattle.sw_message.specs.Step.{Folders, IsFound}
 use Rattle.sw_message.specs.Table.{Found, Handling, HandlesAsk, HandlesCommit, HandlesDelete, HandlesFetch, HandlesPutFrag, HandlesRemove, IsHandled, durable_text, plain_text, tombstone_text}
 use Rattle.sw_message.specs.Warrant.{IsOfPut, IsWarranted}
 use Rattle.sw_message.specs.declared.message.Msg.{Msg}
 use Rattle.sw_message.specs.declared.message.Msg.TheVariants as message
-use Rattle.sw_scene.specs.Filed.{IsFiled}
+use Rattle.sw_scene.specs.Filed.{FoldersFiled, IsFiled}
 use Rattle.sw_scene.proofs.Changed.{Keeps, removals-keep}
 use Rattle.sw_scene.proofs.Genuine.{fetched}
 use Rattle.sw_scene.proofs.Leaving.{Leave, archive-leaves, commit-leaves, none, tombstone-leaves}
@@ -84,10 +84,6 @@ module _ (cluster : ClusterModel) (learnt : Learnt) (place : PlaceModel) (files 
       )
 
 -- ---- the table
-
--- the files in each folder are those of puts
-abbrev pub FoldersFiled : ClusterModel → List Booked → Folders → Type 0
-FoldersFiled cluster book folders = (place : PlaceModel) → IsPlace cluster.part_power place → All (IsFiled cluster book place) (folders (folder_of place))
 
 abbrev pub FineAt : ClusterModel → Learnt → Folders → (room : ℕ) → Found → Type 0 → Handling → Option PlaceModel → Type 0
 FineAt cluster learnt folders room found Warranted handling None = ⊤

@@ -16,6 +16,10 @@ Devices = ℕ → Folders
 abbrev pub AreSame : (before after : Devices) → Type 0
 AreSame before after = (device : ℕ) (name : List ℕ) → after device name ≡ before device name
 
+-- no folder has a file
+abbrev pub no_folders : Folders
+no_folders name = []
+
 -- no device has a file
 abbrev pub no_files : Devices
 no_files device name = []
@@ -43,9 +47,13 @@ pub record IsFree (capacity : ℕ) (folders : Folders) (room : ℕ) : Type 0 whe
 
 -- ---- handling
 
--- A device handles a message by the step of a node, with the room that its capacity leaves. The folders of all other devices stay.
-pub record IsHandledBy (cluster : ClusterModel) (device : ℕ) (msg : Msg) (reply : Reply) (before after : Devices) : Type 0 where
+-- a device handles a message by the step of a node, with the room that its capacity leaves
+pub record IsDeviceStep (cluster : ClusterModel) (device : ℕ) (msg : Msg) (reply : Reply) (before after : Folders) : Type 0 where
   pub room : ℕ
-  pub free : IsFree (capacity_of cluster device) (before device) room
-  pub step : IsNodeStep cluster device room msg (before device) (after device) reply
+  pub free : IsFree (capacity_of cluster device) before room
+  pub step : IsNodeStep cluster device room msg before after reply
+
+-- a device does so, and the folders of all others stay
+pub record IsHandledBy (cluster : ClusterModel) (device : ℕ) (msg : Msg) (reply : Reply) (before after : Devices) : Type 0 where
+  pub handles : IsDeviceStep cluster device msg reply (before device) (after device)
   pub others : (other : ℕ) → other ≢ device → (name : List ℕ) → after other name ≡ before other name
