@@ -19,9 +19,48 @@ use Rattle.sw_sync.specs.declared.sync_end.SyncEnd.TheVariants as syncs
 use Rattle.sw_told.specs.declared.end.EndLine.{EndLine}
 use Rattle.sw_told.specs.declared.end.OpEnd.{OpEnd}
 use Rattle.sw_told.specs.declared.end.OpEnd.TheVariants.{Put, Get, Head, Delete, Sync, Revert}
+use Rattle.sw_told.specs.declared.sent.AnswerKind.{AnswerKind}
+use Rattle.sw_told.specs.declared.sent.AnswerKind.TheVariants as answers
+use Rattle.sw_told.specs.declared.sent.RequestKind.{RequestKind}
+use Rattle.sw_told.specs.declared.sent.RequestKind.TheVariants as requests
+use Rattle.sw_told.specs.declared.sent.SentLine.{SentLine}
+use Rattle.sw_told.specs.declared.sent.SentLine.TheVariants.{Started, Request, Answered}
 use Rattle.sw_told.specs.declared.show.ShowLine.{ShowLine}
 use Rattle.sw_told.specs.declared.show.ShowLine.TheVariants.{Stored, Buried, Empty}
 use Rattle.sw_told.specs.declared.told.Told.{Told}
+
+abbrev pub existed_text : Bool → List ℕ
+existed_text existed = if existed then codes "yes" else codes "no"
+
+-- ---- what was sent
+
+abbrev pub request_text : RequestKind → List ℕ
+request_text (requests.Put index) = codes "put " ++ decimal index
+request_text (requests.Commit index) = codes "commit " ++ decimal index
+request_text requests.Delete = codes "delete"
+request_text requests.Ask = codes "ask"
+request_text (requests.Fetch index) = codes "fetch " ++ decimal index
+request_text (requests.Remove index) = codes "remove " ++ decimal index
+
+abbrev pub answer_text : AnswerKind → List ℕ
+answer_text answers.Synced = codes "synced"
+answer_text answers.Committed = codes "committed"
+answer_text (answers.Deleted existed) = codes "deleted " ++ existed_text existed
+answer_text (answers.Superseded stamp) = codes "superseded " ++ stamp_text stamp
+answer_text answers.Missing = codes "missing"
+answer_text answers.Held = codes "held"
+answer_text answers.Fragment = codes "fragment"
+answer_text answers.Gone = codes "gone"
+answer_text answers.Removed = codes "removed"
+answer_text answers.Kept = codes "kept"
+answer_text (answers.NoSpace need free) = codes "no-space " ++ decimal need ++ 32 ∷ decimal free
+answer_text answers.Spoiled = codes "spoiled"
+
+-- a line of an operation that started, of a message, or of a reply
+abbrev pub sent_line : SentLine → List ℕ
+sent_line (Started operation) = codes "o " ++ decimal operation ++ 10 ∷ []
+sent_line (Request message operation device kind) = codes "m " ++ decimal message ++ 32 ∷ decimal operation ++ 32 ∷ decimal device ++ 32 ∷ request_text kind ++ 10 ∷ []
+sent_line (Answered message operation device kind) = codes "r " ++ decimal message ++ 32 ∷ decimal operation ++ 32 ∷ decimal device ++ 32 ∷ answer_text kind ++ 10 ∷ []
 
 -- ---- the devices of misses
 
@@ -65,9 +104,6 @@ abbrev pub head_text : GetEnd → List ℕ
 head_text (gets.Found stamp object sources) = codes "head " ++ stamp_text stamp ++ 32 ∷ decimal (length object.body) ++ 32 ∷ hex_text object.body_md5
 head_text other = get_text other
 
-abbrev pub existed_text : Bool → List ℕ
-existed_text existed = if existed then codes "yes" else codes "no"
-
 abbrev pub delete_text : DeleteEnd → List ℕ
 delete_text (deletes.Deleted stamp marks existed) = codes "deleted " ++ stamp_text stamp ++ 32 ∷ decimal marks ++ 32 ∷ existed_text existed
 delete_text (deletes.Superseded floor) = codes "superseded " ++ stamp_text floor.stamp
@@ -109,6 +145,6 @@ show_line (Empty device) = codes "s " ++ decimal device ++ codes " empty" ++ 10 
 
 -- ---- all that is told
 
--- the ends, and then what is shown
+-- what was sent, then the ends, and then what is shown
 abbrev pub told_text : Told → List ℕ
-told_text told = concat (map end_line told.ends) ++ concat (map show_line told.shown)
+told_text told = concat (map sent_line told.sent) ++ concat (map end_line told.ends) ++ concat (map show_line told.shown)

@@ -4,6 +4,7 @@ ghost use Rattle.std.specs.Prelude.{◌≡◌, ◌++◌, [], IfOk, OnOk, string_
 ghost use Rattle.sw_told.specs.Text.{delete_text, devices_of, end_line, end_text, get_text, head_text, indices_of, numbers_text, put_text, revert_text, sync_text};
 
 use crate::devices::devices_of;
+use crate::lines::Line;
 use crate::numbers::join_numbers;
 use std::alloc::Global;
 use sw_delete::DeleteEnd;
@@ -32,11 +33,10 @@ pub struct EndLine {
     pub end: OpEnd,
 }
 
-impl EndLine {
-    // The line of this end.
-    pub(crate) fn line(&self, alloc: Global) -> Result<Bytes, NoMemory>
-        ensures { IfOk result (λ line. line ≡ end_line self.now) }
-    {
+impl Line for EndLine {
+    ghost text = { end_line };
+
+    fn line(&self, alloc: Global) -> Result<Bytes, NoMemory> {
         let operation = self.operation;
         let front = format!(in alloc; "e {operation} ")?;
         let mut line = Bytes::from(front.into_bytes());

@@ -3,6 +3,7 @@
 ghost use Rattle.std.specs.Prelude.{◌≡◌, IfOk};
 ghost use Rattle.sw_told.specs.Text.{durable_text, show_line};
 
+use crate::lines::Line;
 use std::alloc::Global;
 use sw_hashdir::Entry;
 use sw_types::{Bytes, NoMemory, Stamp, print_hex};
@@ -26,11 +27,10 @@ pub enum ShowLine {
     },
 }
 
-impl ShowLine {
-    // The line of this.
-    pub(crate) fn line(&self, alloc: Global) -> Result<Bytes, NoMemory>
-        ensures { IfOk result (λ line. line ≡ show_line self.now) }
-    {
+impl Line for ShowLine {
+    ghost text = { show_line };
+
+    fn line(&self, alloc: Global) -> Result<Bytes, NoMemory> {
         match self {
             ShowLine::Stored {
                 device,

@@ -1,6 +1,6 @@
 //! A line of each kind.
 
-use crate::{EndLine, OpEnd, ShowLine, Told};
+use crate::{AnswerKind, EndLine, OpEnd, RequestKind, SentLine, ShowLine, Told};
 use std::alloc::Global;
 use std::test::Fail;
 use sw_delete::DeleteEnd;
@@ -14,6 +14,26 @@ use sw_types::{Bytes, Head, Items, Object, Stamp};
 
 // What is to be printed, behind the text that stands before it.
 const TEXT: &str = "before\n\
+    o 5\n\
+    m 1 5 3 put 0\n\
+    m 2 5 3 commit 11\n\
+    m 3 5 3 delete\n\
+    m 4 5 3 ask\n\
+    m 5 5 3 fetch 2\n\
+    m 6 5 3 remove 4294967295\n\
+    r 7 18446744073709551615 65535 synced\n\
+    r 8 18446744073709551615 65535 committed\n\
+    r 9 18446744073709551615 65535 deleted yes\n\
+    r 10 18446744073709551615 65535 deleted no\n\
+    r 11 18446744073709551615 65535 superseded 1000000000.00001\n\
+    r 12 18446744073709551615 65535 missing\n\
+    r 13 18446744073709551615 65535 held\n\
+    r 14 18446744073709551615 65535 fragment\n\
+    r 15 18446744073709551615 65535 gone\n\
+    r 16 18446744073709551615 65535 removed\n\
+    r 17 18446744073709551615 65535 kept\n\
+    r 18 18446744073709551615 65535 no-space 18446744073709551615 0\n\
+    r 19 18446744073709551615 65535 spoiled\n\
     e 1 created 1000000000.00000 3\n\
     e 2 superseded 1000000000.00001\n\
     e 3 too-few-synced 2\n\
@@ -62,6 +82,60 @@ fn floor() -> Result<Floor, Fail> {
 fn misses(alloc: Global) -> Result<Items<(u16, Miss)>, Fail> {
     let misses = vec![in alloc; (1, Miss::NoReply), (0, Miss::DiskFault), (1, Miss::Odd)]?;
     Ok(Items::from(misses))
+}
+
+fn requests() -> [RequestKind; 6] {
+    [
+        RequestKind::Put { index: 0 },
+        RequestKind::Commit { index: 11 },
+        RequestKind::Delete,
+        RequestKind::Ask,
+        RequestKind::Fetch { index: 2 },
+        RequestKind::Remove { index: u32::MAX },
+    ]
+}
+
+fn answers() -> Result<[AnswerKind; 13], Fail> {
+    Ok([
+        AnswerKind::Synced,
+        AnswerKind::Committed,
+        AnswerKind::Deleted { existed: true },
+        AnswerKind::Deleted { existed: false },
+        AnswerKind::Superseded { stamp: deleted()? },
+        AnswerKind::Missing,
+        AnswerKind::Held,
+        AnswerKind::Fragment,
+        AnswerKind::Gone,
+        AnswerKind::Removed,
+        AnswerKind::Kept,
+        AnswerKind::NoSpace {
+            need: u64::MAX,
+            free: 0,
+        },
+        AnswerKind::Spoiled,
+    ])
+}
+
+// A start, and each request and each reply with its number.
+fn sent(alloc: Global) -> Result<Vec<SentLine>, Fail> {
+    let mut lines = vec![in alloc; SentLine::Started { operation: 5 }]?;
+    for kind in &requests() {
+        lines.push(SentLine::Request {
+            message: lines.len() as u64,
+            operation: 5,
+            device: 3,
+            kind: *kind,
+        })?;
+    }
+    for kind in &answers()? {
+        lines.push(SentLine::Answered {
+            message: lines.len() as u64,
+            operation: u64::MAX,
+            device: u16::MAX,
+            kind: *kind,
+        })?;
+    }
+    Ok(lines)
 }
 
 // Adds an end with its number, from 1.
@@ -274,6 +348,7 @@ fn shown(alloc: Global) -> Result<Vec<ShowLine>, Fail> {
 fn prints_a_line_of_each_kind(rt: HostRuntime) -> Result<(), Fail> {
     let alloc = rt.alloc();
     let told = Told {
+        sent: Items::from(sent(alloc)?),
         ends: Items::from(ends(alloc)?),
         shown: Items::from(shown(alloc)?),
     };

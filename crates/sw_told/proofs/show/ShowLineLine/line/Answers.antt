@@ -2,7 +2,7 @@ use Rattle.std.proofs.Common.{[], ◌∷◌, codes, sym}
 use Rattle.std.specs.Fmt.{decimal}
 use Rattle.sw_types.specs.Stamp.{stamp_text}
 use Rattle.sw_told.proofs.Printed.{pieces_of_five, pieces_of_three}
-use Rattle.sw_told.proofs.show.ShowLine.line.Goals as goal
+use Rattle.sw_told.proofs.show.ShowLineLine.line.Goals as goal
 
 pub returns-in_ok-line-in-Buried : goal.returns-in_ok-line-in-Buried
 returns-in_ok-line-in-Buried c =
