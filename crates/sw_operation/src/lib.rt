@@ -1,0 +1,11 @@
+//! Operations of any kind as one: puts, gets, heads, deletes, and the jobs of a device's reconstructor.
+#![tactic(auto)]
+
+mod any_op;
+mod beginning;
+mod ending;
+
+pub use crate::any_op::AnyOp;
+
+#[cfg(test)]
+mod tests;
