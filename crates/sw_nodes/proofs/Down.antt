@@ -1,7 +1,21 @@
--- The devices that are down, without one.
-use Rattle.std.proofs.Common.{◌≡◌, ◌≢◌, ◌⊎◌, inl, inr, ⊎_elim, ℕ, ◌==◌, Bool, true, false, not, ◌&&◌, ◌||◌, List, [], ◌∷◌, filter, refl, sym, ap, ◌∙◌}
+-- The devices that are down, without one and with one more.
+use Rattle.std.proofs.Common.{◌≡◌, ◌≢◌, ◌⊎◌, inl, inr, ⊎_elim, ℕ, ◌==◌, Bool, true, false, not, ◌&&◌, ◌||◌, List, [], ◌∷◌, ◌++◌, filter, refl, sym, ap, ◌∙◌}
 use Rattle.std.proofs.lemmas.Bool.{cases_eq, eq-eqb, ne_eqb}
+use Rattle.std.proofs.lemmas.List.Folds.{list_any-append}
 use Rattle.sw_ring.specs.Ring.{is_among}
+
+-- one more
+pub among_more : (device : ℕ) (down : List ℕ) (other : ℕ) → is_among (down ++ device ∷ []) other ≡ (is_among down other || other == device)
+among_more device down other =
+    list_any-append (λ (one : ℕ). one == other) down (device ∷ []) ∙ ap (λ (b : Bool). is_among down other || b) (none (device == other) ∙ turned (cases_eq device other))
+  where
+    none : (a : Bool) → (a || false) ≡ a
+    none true = refl
+    none false = refl
+
+    turned : (device ≡ other) ⊎ (device ≢ other) → (device == other) ≡ (other == device)
+    turned (inl same) = eq-eqb device other same ∙ sym (eq-eqb other device (sym same))
+    turned (inr differs) = ne_eqb device other differs ∙ sym (ne_eqb other device (λ same. differs (sym same)))
 
 module _ (device : ℕ) where
   pub among_fewer : (down : List ℕ) (other : ℕ) → is_among (filter (λ (one : ℕ). not (one == device)) down) other ≡ (is_among down other && not (other == device))

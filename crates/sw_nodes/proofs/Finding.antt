@@ -1,7 +1,8 @@
 -- An item of a list whose keys differ is found by its key, also once another item with its key stands in its place.
-use Rattle.std.proofs.Common.{◌≡◌, ◌≢◌, ℕ, zero, suc, ◌==◌, Bool, cond, List, [], ◌∷◌, Some, refl, sym, ap, ◌∙◌, arith}
-use Rattle.std.specs.List.{AllPairs, find, slice_get, slice_set}
+use Rattle.std.proofs.Common.{◌≡◌, ◌≢◌, ℕ, zero, suc, ◌==◌, Bool, cond, List, [], ◌∷◌, Some, get_or, refl, sym, ap, ◌∙◌, arith}
+use Rattle.std.specs.List.{All, AllPairs, find, slice_get, slice_set}
 use Rattle.std.proofs.lemmas.Bool.{eq-eqb, ne_eqb}
+use Rattle.std.proofs.lemmas.List.Elements.{All-cons, All-head, All-tail}
 use Rattle.std.proofs.lemmas.Option.{get_or_from_slice_get, slice_get_within}
 
 module _ {X : Type 0} (key : X → ℕ) where
@@ -18,6 +19,16 @@ module _ {X : Type 0} (key : X → ℕ) where
   first-differs : (first : X) (xs : List X) (place : ℕ) (x : X) → Differ (first ∷ xs) → slice_get xs place ≡ Some x → key first ≢ key x
   first-differs first xs place x differ at same =
       differ zero (suc place) x (omega arith) (omega (arith, slice_get_within xs place x at)) (same ∙ ap key (sym (get_or_from_slice_get xs place x x at)))
+
+  -- what holds of each holds of each with another one in the place of one, where it stays so for those with another key
+  pub all_set : (P Q : X → Type 0) (xs : List X) (place : ℕ) (x new : X) → Differ xs → slice_get xs place ≡ Some x → All P xs → ((y : X) → key y ≢ key x → P y → Q y) → Q new → All Q (slice_set xs place new)
+  all_set P Q [] place x new differ at all stays now = absurd (cc)
+  all_set P Q (first ∷ xs) zero x new differ at all stays now =
+      let same : first ≡ x = cc in
+      All-cons Q new xs now (λ k d within.
+      stays (get_or xs k d) (λ is. differ zero (suc k) d (omega arith) (omega (arith, within)) (ap key same ∙ sym is)) (all (suc k) d (omega (arith, within))))
+  all_set P Q (first ∷ xs) (suc place) x new differ at all stays now =
+      All-cons Q first (slice_set xs place new) (stays first (first-differs first xs place x differ at) (All-head P first xs all)) (all_set P Q xs place x new (later first xs differ) at (All-tail P first xs all) stays now)
 
   pub find_at : (xs : List X) (place : ℕ) (x : X) → Differ xs → slice_get xs place ≡ Some x → find (has (key x)) xs ≡ Some x
   find_at [] place x differ at = absurd (cc)

@@ -1,5 +1,5 @@
 -- A node that handles a message, among the nodes of its cluster.
-use Rattle.std.proofs.Common.{◌≡◌, ◌≢◌, inl, inr, ⊎_elim, ℕ, ◌-◌, Bool, false, List, Option, None, Some, refl, sym, ap, subst, ◌∙◌}
+use Rattle.std.proofs.Common.{◌≡◌, ◌≢◌, inl, inr, ⊎_elim, ℕ, Bool, false, List, Option, None, Some, refl, sym, ap, subst, ◌∙◌}
 use Rattle.std.specs.List.{All}
 use Rattle.std.proofs.lemmas.Bool.{cases_Bool, true≢false}
 use Rattle.sw_disk.specs.State.{free_of}
@@ -20,13 +20,14 @@ use Rattle.sw_scene.specs.Devices.{IsFree, IsHandledBy, capacity_of}
 use Rattle.sw_nodes.specs.Nodes.{AreNodes, CallsUp, IsHandledAt, IsSettledDisk, MemNode, NodesModel, devices_of, files_at, is_want, node_of}
 use Rattle.sw_nodes.proofs.Capacities.{handles_capacity, handles_device}
 use Rattle.sw_nodes.proofs.Mounting.{settled_still}
+use Rattle.sw_nodes.proofs.Rooms.{room_is}
 use Rattle.sw_nodes.proofs.Replacing.{are_still, capacity_is, found_after, found_before, old_is, other_files}
 
 no_want : (reply : Reply) → is_want reply ≡ false → IsByTable reply
 no_want reply none = (λ is. true≢false (sym (ap is_want is) ∙ none), λ is. true≢false (sym (ap is_want is) ∙ none))
 
 -- it was mounted, so nothing came before its handling
-when_mounted : (cluster : ClusterModel) (msg : Msg) (reply : Reply) (old new : MemNode) → old.is_due ≡ false → HandlesWhenMounted seen_of LeftBy cluster msg reply old new → Handled seen_of LeftBy cluster msg reply old new
+pub when_mounted : (cluster : ClusterModel) (msg : Msg) (reply : Reply) (old new : MemNode) → old.is_due ≡ false → HandlesWhenMounted seen_of LeftBy cluster msg reply old new → Handled seen_of LeftBy cluster msg reply old new
 when_mounted cluster msg reply old new mounted (inl now) = now.1
 when_mounted cluster msg reply old new mounted (inr due) = absurd (true≢false (sym due.0 ∙ mounted))
 
@@ -70,27 +71,25 @@ module _ (all : NodesModel) (are : AreNodes all) (place : ℕ) (msg : Msg) (repl
   it_is : (P : MemNode → Type 0) → All P all.nodes → P handled.old
   it_is P each = old_is all are place handled.old handled.new handled.at same_device P each
 
-  room_is : IsFree (capacity_of all.cluster handled.old.device) (files_at (Some handled.old)) (free_of (state_of handled.old.disk))
-  room_is =
-      let accounted = (it_is (IsNode all.cluster seen_of) are.are).accounted in
-      record {
-        names = accounted.names;
-        distinct = accounted.distinct;
-        others = accounted.others;
-        room_is = ap (λ (n : ℕ). n - (state_of handled.old.disk).used) capacity ∙ ap (λ (n : ℕ). capacity_of all.cluster handled.old.device - n) accounted.used_is;
-      }
+  module _ (up : is_among all.down handled.old.device ≡ false) (goes : all.is_wanting ≡ false) (none : is_want reply ≡ false) where
+    mounted : handled.old.is_due ≡ false
+    mounted = it_is (λ (node : MemNode). is_among all.down node.device ≡ false → node.is_due ≡ false) (are.mounted goes) up
 
-  module _ (goes : all.is_wanting ≡ false) (none : is_want reply ≡ false) where
     now : Handled seen_of LeftBy all.cluster msg reply handled.old handled.new
-    now = when_mounted all.cluster msg reply handled.old handled.new (it_is (λ (node : MemNode). node.is_due ≡ false) (are.mounted goes)) handled.handles
+    now = when_mounted all.cluster msg reply handled.old handled.new mounted handled.handles
+
+    room : IsFree (capacity_of all.cluster handled.old.device) (files_at (Some handled.old)) (free_of (state_of handled.old.disk))
+    room = room_is all.cluster handled.old (it_is (IsNode all.cluster seen_of) are.are) mounted (capacity_of all.cluster handled.old.device) capacity
 
     -- it is the step of a node
     handled_by : IsHandledBy all.cluster handled.old.device msg reply (devices_of all.nodes) (devices_of later)
     handled_by = record {
-      room = free_of (state_of handled.old.disk);
-      free = subst (λ (node : Option MemNode). IsFree (capacity_of all.cluster handled.old.device) (files_at node) (free_of (state_of handled.old.disk))) (sym before) room_is;
-      step = subst (λ (node : Option MemNode). IsNodeStep all.cluster handled.old.device (free_of (state_of handled.old.disk)) msg (files_at node) (devices_of later handled.old.device) reply) (sym before)
-          (subst (λ (node : Option MemNode). IsNodeStep all.cluster handled.old.device (free_of (state_of handled.old.disk)) msg (files_at (Some handled.old)) (files_at node) reply) (sym after) (now.step (no_want reply none)));
+      handles = record {
+        room = free_of (state_of handled.old.disk);
+        free = subst (λ (node : Option MemNode). IsFree (capacity_of all.cluster handled.old.device) (files_at node) (free_of (state_of handled.old.disk))) (sym before) room;
+        step = subst (λ (node : Option MemNode). IsNodeStep all.cluster handled.old.device (free_of (state_of handled.old.disk)) msg (files_at node) (devices_of later handled.old.device) reply) (sym before)
+            (subst (λ (node : Option MemNode). IsNodeStep all.cluster handled.old.device (free_of (state_of handled.old.disk)) msg (files_at (Some handled.old)) (files_at node) reply) (sym after) (now.step (no_want reply none)));
+      };
       others = λ other differs name. ap (λ (nodes : List MemNode). devices_of nodes other name) handled.others ∙ other_files all are place handled.old handled.new handled.at same_device other differs name;
     }
 
@@ -100,16 +99,16 @@ module _ (all : NodesModel) (are : AreNodes all) (place : ℕ) (msg : Msg) (repl
       | inr mounted ↦ mounted
     ]
 
-  module _ (right : IsPlaceOf all.cluster (place_in msg)) (wanting : Bool) (says : wanting ≡ false → (all.is_wanting ≡ false) × (is_want reply ≡ false)) where
+  module _ (right : IsPlaceOf all.cluster (place_in msg)) (up : is_among all.down handled.old.device ≡ false) (wanting : Bool) (says : wanting ≡ false → (all.is_wanting ≡ false) × (is_want reply ≡ false)) where
     -- they are still the nodes of the cluster
     pub are_after : AreNodes (record all { nodes = later; is_wanting = wanting })
     are_after = subst (λ (nodes : List MemNode). AreNodes (record all { nodes = nodes; is_wanting = wanting })) (sym handled.others)
         (are_still all are place handled.old handled.new handled.at same_device handled.is_node
-        (handles_capacity all.cluster msg reply handled.old handled.new handled.handles ∙ capacity ∙ ap (capacity_of all.cluster) (sym same_device)) all.down all.lost wanting (λ goes. (says goes).0)
+        (handles_capacity all.cluster msg reply handled.old handled.new handled.handles ∙ capacity ∙ ap (capacity_of all.cluster) (sym same_device)) all.down all.lost wanting (λ goes. (says goes).0) (λ _ _ stays. stays)
         (λ goes.
-        let mounted = still_mounted (says goes).0 (says goes).1 in (
-          mounted,
-          still_settled all.cluster msg reply handled.old handled.new right (now (says goes).0 (says goes).1) handled.is_node mounted (it_is (λ (node : MemNode). IsSettledDisk node.disk) (are.settled (says goes).0)),
+        let mounted = still_mounted up (says goes).0 (says goes).1 in (
+          λ _. mounted,
+          still_settled all.cluster msg reply handled.old handled.new right (now up (says goes).0 (says goes).1) handled.is_node mounted (it_is (λ (node : MemNode). IsSettledDisk node.disk) (are.settled (says goes).0)),
         )))
 
   -- so it was called
@@ -120,7 +119,7 @@ module _ (all : NodesModel) (are : AreNodes all) (place : ℕ) (msg : Msg) (repl
     place = place;
     once = handled;
     mine = mine;
-    handled = λ goes. subst (λ (id : ℕ). IsHandledBy all.cluster id msg reply (devices_of all.nodes) (devices_of later)) mine (handled_by (says goes).0 (says goes).1);
+    handled = λ goes. subst (λ (id : ℕ). IsHandledBy all.cluster id msg reply (devices_of all.nodes) (devices_of later)) mine (handled_by (subst (λ (id : ℕ). is_among all.down id ≡ false) (sym mine) up) (says goes).0 (says goes).1);
     same_cluster = refl;
     same_down = refl;
     none_lost = refl;

@@ -60,7 +60,7 @@ are_made cluster rules nodes made = record {
   each = made.each;
   are = λ k d within. (made.fresh k d within).is_node;
   capacities = λ k d within. (made.fresh k d within).capacity;
-  mounted = λ goes k d within. (made.fresh k d within).mounted;
+  mounted = λ goes k d within _. (made.fresh k d within).mounted;
   settled = λ goes k d within. (made.fresh k d within).settled;
 }
 

@@ -37,7 +37,7 @@ abbrev pub AreAsBefore : MemDiskModel → MemDiskModel → Type 0
 AreAsBefore a b = (name : List ℕ) → IsAsBefore ((state_of a).folder name) ((state_of b).folder name)
 
 -- calls that change no name
-quiet_run : (calls : List Call) → ((name : List ℕ) (temporary : Option Content) → changes_by name calls temporary ≡ []) → (a b : MemDiskModel) → Runs seen_of LeftBy calls None a b → AreAsBefore a b
+pub quiet_run : (calls : List Call) → ((name : List ℕ) (temporary : Option Content) → changes_by name calls temporary ≡ []) → (a b : MemDiskModel) → Runs seen_of LeftBy calls None a b → AreAsBefore a b
 quiet_run calls none a b runs name =
     carry seen_of LeftBy calls a b (λ (state : State). state ≡ state_of a) (λ (state : State). IsAsBefore ((state_of a).folder name) (state.folder name)) runs refl (λ steps state are is. made steps state are is)
   where

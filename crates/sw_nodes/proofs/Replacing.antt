@@ -6,10 +6,11 @@ use Rattle.std.proofs.lemmas.Bool.{cases_eq}
 use Rattle.std.proofs.lemmas.List.Elements.{All-set}
 use Rattle.std.proofs.lemmas.Option.{get_or_from_slice_get, slice_get_within}
 use Rattle.sw_memdisk.specs.Memory.{seen_of}
+use Rattle.sw_ring.specs.Ring.{is_among}
 use Rattle.sw_objsrv.specs.Node.{IsNode}
 use Rattle.sw_scene.specs.Devices.{AreSame, capacity_of}
 use Rattle.sw_nodes.specs.Nodes.{AreNodes, IsSettledDisk, Loses, MemNode, NodesModel, devices_of, files_at, node_of}
-use Rattle.sw_nodes.proofs.Finding.{find_at, find_other, find_set}
+use Rattle.sw_nodes.proofs.Finding.{all_set, find_at, find_other, find_set}
 use Rattle.sw_nodes.proofs.Making.{IsFresh}
 use Rattle.sw_nodes.proofs.Placing.{device_in, differ}
 
@@ -48,14 +49,19 @@ module _ (all : NodesModel) (are : AreNodes all) (place : ℕ) (old new : MemNod
 
   -- ---- they are still the nodes of the cluster
 
-  pub are_still : IsNode all.cluster seen_of new → new.disk.capacity ≡ capacity_of all.cluster new.device → (down : List ℕ) (lost : ℕ) (wanting : Bool) → (wanting ≡ false → all.is_wanting ≡ false)
-      → (wanting ≡ false → (new.is_due ≡ false) × IsSettledDisk new.disk) → AreNodes (record { cluster = all.cluster; nodes = later; down = down; lost = lost; is_wanting = wanting })
-  are_still is_node capacity down lost wanting went now = record {
+  -- the devices that are down now: of the others none comes up
+  abbrev pub StaysDown : List ℕ → Type 0
+  StaysDown down = (other : ℕ) → other ≢ old.device → is_among down other ≡ false → is_among all.down other ≡ false
+
+  pub are_still : IsNode all.cluster seen_of new → new.disk.capacity ≡ capacity_of all.cluster new.device → (down : List ℕ) (lost : ℕ) (wanting : Bool) → (wanting ≡ false → all.is_wanting ≡ false) → StaysDown down
+      → (wanting ≡ false → (is_among down new.device ≡ false → new.is_due ≡ false) × IsSettledDisk new.disk) → AreNodes (record { cluster = all.cluster; nodes = later; down = down; lost = lost; is_wanting = wanting })
+  are_still is_node capacity down lost wanting went stays now = record {
     rules = are.rules;
     each = map-set_same device_in all.nodes place new old (same ∙ ap device_in (sym (get_or_from_slice_get all.nodes place old old at))) ∙ are.each;
     are = All-set (IsNode all.cluster seen_of) all.nodes place new is_node are.are;
     capacities = All-set (λ (node : MemNode). node.disk.capacity ≡ capacity_of all.cluster node.device) all.nodes place new capacity are.capacities;
-    mounted = λ goes. All-set (λ (node : MemNode). node.is_due ≡ false) all.nodes place new (now goes).0 (are.mounted (went goes));
+    mounted = λ goes. all_set device_in (λ (node : MemNode). is_among all.down node.device ≡ false → node.is_due ≡ false) (λ (node : MemNode). is_among down node.device ≡ false → node.is_due ≡ false)
+        all.nodes place old new (differ all are) at (are.mounted (went goes)) (λ node differs mounted up. mounted (stays node.device differs up)) (now goes).0;
     settled = λ goes. All-set (λ (node : MemNode). IsSettledDisk node.disk) all.nodes place new (now goes).1 (are.settled (went goes));
   }
 
@@ -63,7 +69,7 @@ module _ (all : NodesModel) (are : AreNodes all) (place : ℕ) (old new : MemNod
 
   module _ (fresh : IsFresh all.cluster new) where
     pub are_lost : AreNodes (record all { nodes = later })
-    are_lost = are_still fresh.is_node fresh.capacity all.down all.lost all.is_wanting (λ goes. goes) (λ _. (fresh.mounted, fresh.settled))
+    are_lost = are_still fresh.is_node fresh.capacity all.down all.lost all.is_wanting (λ goes. goes) (λ _ _ up. up) (λ _. (λ _. fresh.mounted, fresh.settled))
 
     pub loses : (device : ℕ) → old.device ≡ device → Loses all device (record all { nodes = later })
     loses device mine = record {

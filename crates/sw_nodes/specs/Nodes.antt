@@ -13,7 +13,8 @@ use Rattle.sw_message.specs.declared.reply.Reply.TheVariants.{DiskFault, NoMemor
 use Rattle.sw_objsrv.specs.Handling.{folders_of}
 use Rattle.sw_objsrv.specs.Node.{HandlesWhenMounted, IsNode, NodeModel, Remounts}
 use Rattle.sw_objsrv.specs.declared.fault.MountFault.{MountFault}
-use Rattle.sw_scene.specs.Devices.{AreSame, Devices, IsHandledBy, capacity_of}
+use Rattle.sw_scene.specs.Devices.{Devices, IsHandledBy, capacity_of}
+use Rattle.sw_scene.specs.Disks.{IsMounted}
 
 -- a node on a disk in memory
 abbrev pub MemNode : Type 0
@@ -47,13 +48,13 @@ abbrev pub IsSettledDisk : MemDiskModel → Type 0
 IsSettledDisk disk = (name : List ℕ) → IsSettled ((state_of disk).folder name)
 
 -- What always holds of them: there is a node for each device of the cluster, ascending by id, on a disk of the device's capacity; as
--- long as none wanted memory, none has to mount again, and a crash would leave each disk as it is.
+-- long as none wanted memory, none that is up has to mount again, and a crash would leave each disk as it is.
 pub record AreNodes (nodes : NodesModel) : Type 0 where
   pub rules : KeepsRules nodes.cluster
   pub each : map (λ (node : MemNode). node.device) nodes.nodes ≡ ids_of nodes.cluster
   pub are : All (IsNode nodes.cluster seen_of) nodes.nodes
   pub capacities : All (λ (node : MemNode). node.disk.capacity ≡ capacity_of nodes.cluster node.device) nodes.nodes
-  pub mounted : nodes.is_wanting ≡ false → All (λ (node : MemNode). node.is_due ≡ false) nodes.nodes
+  pub mounted : nodes.is_wanting ≡ false → All (λ (node : MemNode). is_among nodes.down node.device ≡ false → node.is_due ≡ false) nodes.nodes
   pub settled : nodes.is_wanting ≡ false → All (λ (node : MemNode). IsSettledDisk node.disk) nodes.nodes
 
 -- the reply says that memory was wanted; that a disk failed it says only once its calls can't be counted any more
@@ -109,10 +110,12 @@ pub record Stops (before : NodesModel) (device : ℕ) (after : NodesModel) : Typ
   pub after_is : after ≡ record before { down = after.down }
   pub down : (other : ℕ) → is_among after.down other ≡ (is_among before.down other || other == device)
 
--- A device is up from now on, mounted again where it was down; its folders have what they had.
+-- A device is up from now on. Where it was down, its folders were mounted; else they have what they had, as have those of the others.
 pub record Restarts (before : NodesModel) (device : ℕ) (after : NodesModel) : Type 0 where
   pub after_is : after ≡ record before { nodes = after.nodes; down = after.down }
-  pub same : AreSame (devices_of before.nodes) (devices_of after.nodes)
+  pub mounted : is_among before.down device ≡ true → IsMounted before.cluster device (devices_of before.nodes device) (devices_of after.nodes device)
+  pub same : is_among before.down device ≡ false → after.nodes ≡ before.nodes
+  pub others : (other : ℕ) → other ≢ device → (name : List ℕ) → devices_of after.nodes other name ≡ devices_of before.nodes other name
   pub down : (other : ℕ) → is_among after.down other ≡ (is_among before.down other && not (other == device))
 
 -- A device has an empty disk from now on, and is up or down as it was.

@@ -9,8 +9,10 @@ ghost use Rattle.sw_message.specs.Message.{IsMember, IsPlaceOf, place_in};
 ghost use Rattle.sw_objsrv.specs.Handling.{folders_of};
 ghost use Rattle.sw_objsrv.specs.Mounting.{fault_of};
 ghost use Rattle.sw_objsrv.specs.Node.{IsNode};
+ghost use Rattle.sw_nodes.specs.Crashing.{Crashes, IsCrashedAt};
 ghost use Rattle.sw_nodes.specs.Nodes.{Calls, IsHandledAt, IsRemountedAt, IsSettledDisk, Loses, MemNode, Restarts, Stops, devices_of, is_want, node_of};
 
+use crate::crashing::crash_within;
 use std::alloc::Global;
 use std::marker::Model;
 use sw_memdisk::MemDisk;
@@ -36,6 +38,7 @@ pub struct Nodes<'a> {
 }
 
 impl<'a> Model for Nodes<'a> {
+    ghost use Rattle.sw_nodes.specs.Crashing.{Crashes, IsCrashedAt};
     ghost use Rattle.sw_nodes.specs.Nodes.{AreNodes, NodesModel};
 
     ghost Value = { NodesModel };
@@ -118,6 +121,37 @@ impl<'a> Nodes<'a> {
             return Err(NoMemory);
         }
         self.down.retain(|other| *other != device);
+        Ok(())
+    }
+
+    /// A device that is up stops within the handling of a message, after so many device calls or at its end, and its disk
+    /// crashes: of each folder's pending changes of names it keeps so many, at most all. The device is down from now on.
+    pub fn crash(&mut self, device: u16, msg: &Msg, calls: u64, pick: u64) -> Result<(), NoMemory>
+        requires member { IsMember self.old.cluster device }
+        requires place { IsPlaceOf self.old.cluster (place_in msg.now) }
+        requires up { is_among self.old.down device ≡ false }
+        requires goes_on { self.old.is_wanting ≡ false }
+        ensures crashes { OnOk result (Crashes self.old device msg.now calls pick self.new) }
+        ensures wants { OnErr result (self.new.is_wanting ≡ true) }
+        ensures cluster { self.new.cluster ≡ self.old.cluster }
+    {
+        let place = self.place_of(device).unwrap();
+        if self.down.push(device).is_err() {
+            self.is_wanting = true;
+            return Err(NoMemory);
+        }
+        if !crash_at(
+            self.alloc,
+            self.cluster,
+            &mut self.nodes,
+            place,
+            msg,
+            calls,
+            pick,
+        ) {
+            self.is_wanting = true;
+            return Err(NoMemory);
+        }
         Ok(())
     }
 
@@ -226,6 +260,25 @@ fn handle_at(
 {
     let node = &mut nodes[place];
     node.handle(alloc, cluster, msg)
+}
+
+// Has the device of the node at a place lose power within the handling of a message. Whether it was that, and no want of memory.
+fn crash_at(
+    alloc: Global,
+    cluster: &Cluster,
+    nodes: &mut [Node<MemDisk>],
+    place: usize,
+    msg: &Msg,
+    calls: u64,
+    pick: u64,
+) -> bool
+    requires at { place < length nodes.old }
+    requires are { All (IsNode cluster.now seen_of) nodes.old }
+    requires of { IsPlaceOf cluster.now (place_in msg.now) }
+    ensures { IsCrashedAt cluster.now place msg.now calls pick result nodes.old nodes.new }
+{
+    let node = &mut nodes[place];
+    crash_within(alloc, cluster, node, msg, calls, pick)
 }
 
 // Mounts the node at a place again.

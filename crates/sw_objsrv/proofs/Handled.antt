@@ -203,6 +203,7 @@ module _ {D : Type 0} (seen : D → Seen) (left_since : D → Past) (cluster : C
         due = λ fault. due ∙ fault_fails (seen old.disk) (seen new.disk) result all.ended fault;
         failed = failed_counts (seen old.disk) (seen new.disk) result all.ended;
         quiet = other_quiet (seen old.disk) (seen new.disk) result all.ended;
+        accounted = answered_accounted seen left_since cluster old.device old.floors message result old.disk new.disk answered;
         device = device;
       }
     where
@@ -235,5 +236,5 @@ module _ {D : Type 0} (seen : D → Seen) (left_since : D → Past) (cluster : C
     power_is = power ∙ node.power_is;
     member = subst (IsMember cluster) (sym device) node.member;
     in_order = λ none. subst (λ (d : ℕ). IfTold (seen new.disk).told (AreInOrder cluster d new.floors)) (sym device) (ended_orders tells first second result (sym due ∙ none) unmade refused orders);
-    accounted = answered_accounted seen left_since cluster old.device old.floors message result old.disk new.disk answered node.accounted;
+    accounted = λ none. answered_accounted seen left_since cluster old.device old.floors message result old.disk new.disk answered (node.accounted mounted);
   }

@@ -7,6 +7,7 @@ pub mod Found
 pub mod Handled
 pub mod InOrder
 pub mod Keeping
+pub mod MadeFiles
 pub mod Mounted
 pub mod MountedFloors
 pub mod PlaceFolders

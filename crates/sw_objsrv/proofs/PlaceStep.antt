@@ -1,5 +1,5 @@
 -- Messages about a place: what a row of the table leaves of the folders, and what a crash leaves of them.
-use Rattle.std.proofs.Common.{◌≡◌, ◌≢◌, ◌⊎◌, inl, inr, ⊎_elim, ℕ, ◌≤◌, Bool, cond, List, [], length, take, Option, Some, None, Result, Ok, Err, IsSome, refl, sym, ◌∙◌, ap, subst, arith, OnOk}
+use Rattle.std.proofs.Common.{◌≡◌, ◌≢◌, ◌⊎◌, inl, inr, ⊎_elim, ℕ, ◌≤◌, Bool, cond, Contains, List, [], length, take, Option, Some, None, Result, Ok, Err, IsSome, refl, sym, ◌∙◌, ap, subst, arith, OnOk}
 use Rattle.std.specs.Prelude.{⊤}
 use Rattle.std.proofs.lemmas.List.{take_all}
 use Rattle.sw_disk.specs.Calls.{ListNames}
@@ -31,7 +31,7 @@ use Rattle.sw_objsrv.proofs.Fetched.{no_answer}
 use Rattle.sw_objsrv.proofs.InOrder.{StayInOrder, order_settled, others_kept}
 use Rattle.sw_objsrv.proofs.Purging.{in_order_normal}
 use Rattle.sw_objsrv.proofs.RowCalls.{makes, quiet_elsewhere, unchanging_none, row_of}
-use Rattle.sw_objsrv.proofs.RowForms.{parts}
+use Rattle.sw_objsrv.proofs.RowForms.{part_files, parts}
 use Rattle.sw_objsrv.proofs.Told.{both_both, both_each, both_follow, told_both}
 use Rattle.sw_suffix.specs.Table.{floor_at}
 
@@ -69,11 +69,17 @@ module _ (cluster : ClusterModel) (device : ℕ) (message : Msg) (place : PlaceM
     step_changed = step changed handling.reply refl (record { changed = changed_here; others = λ other differs. ap (changed_if other) (other_name other (folder_of place) differs) })
 
     before_or_after : (files : List File) → IsNormalForm (is_primary cluster device place) files (before (folder_of place)) ⊎ IsNormalForm (is_primary cluster device place) files (all_changed handling.changes (before (folder_of place)))
-        → IsBeforeOrAfter cluster device room message place before files
-    before_or_after files either = ⊎_elim
-        (λ stays. inl stays)
-        (λ goes. inr (changed, handling.reply, step_changed, subst (IsNormalForm (is_primary cluster device place) files) (sym changed_here) goes))
-        either
+        → ((file : File) → Contains files file → Contains (before (folder_of place)) file ⊎ Contains (all_changed handling.changes (before (folder_of place))) file) → IsBeforeOrAfter cluster device room message place before files
+    before_or_after files either each = record {
+      normal = ⊎_elim
+          (λ stays. inl stays)
+          (λ goes. inr (changed, handling.reply, step_changed, subst (IsNormalForm (is_primary cluster device place) files) (sym changed_here) goes))
+          either;
+      each = λ file has. ⊎_elim
+          (λ old. inl old)
+          (λ new. inr (changed, handling.reply, step_changed, subst (λ (fs : List File). Contains fs file) (sym changed_here) new))
+          (each file has);
+    }
 
   -- ---- what is left
 
@@ -111,8 +117,11 @@ module _ (cluster : ClusterModel) (device : ℕ) (message : Msg) (place : PlaceM
       LeavesDecided before = (t : ℕ) (image : List File) → t ≤ (seen a).moment → left_since b t (folder_of place) image → left_since a t (folder_of place) image ⊎ Decided before image
 
       as_it_was : (before : State) → InOrder before → (files : List File) → files ≡ files_of (before.folder (folder_of place)) → Decided before files
-      as_it_was before order files same =
-          inl (subst (λ (fs : List File). IsNormalForm (is_primary cluster device place) fs (files_of (before.folder (folder_of place)))) (sym same) (in_order_normal (is_primary cluster device place) floor (before.folder (folder_of place)) order))
+      as_it_was before order files same = record {
+        normal =
+            inl (subst (λ (fs : List File). IsNormalForm (is_primary cluster device place) fs (files_of (before.folder (folder_of place)))) (sym same) (in_order_normal (is_primary cluster device place) floor (before.folder (folder_of place)) order));
+        each = λ file has. inl (subst (λ (fs : List File). Contains fs file) same has);
+      }
 
       -- a crash just before leaves the folder as it was
       decided_within : (told : Option State) → IfTold told InOrder → ((image : List File) → left_since a (seen a).moment (folder_of place) image → IfTold told (λ s. IsImage (s.folder (folder_of place)) image))
@@ -150,6 +159,7 @@ module _ (cluster : ClusterModel) (device : ℕ) (message : Msg) (place : PlaceM
         decided before has files part =
             before_or_after did.found did.handling did.row (folders_of before) (free_of before) has.0 files
             (parts cluster device (free_of before) did.found message did.handling did.row stamped place about floor (before.folder (folder_of place)) has.1 has.0 files part)
+            (part_files cluster device (free_of before) did.found message did.handling did.row stamped place about floor (before.folder (folder_of place)) has.1 has.0 files part)
 
         abbrev LeavesPart : State → Type 0
         LeavesPart before = AreSynced (files_of (before.folder (folder_of place))) → (t : ℕ) (image : List File) → t ≤ (seen a).moment → left_since b t (folder_of place) image

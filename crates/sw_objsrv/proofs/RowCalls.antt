@@ -1,7 +1,8 @@
 -- The device calls of the rows of a node's table, and which changes of names they make.
 use Rattle.std.proofs.Common.{◌≡◌, ◌≢◌, ◌⊎◌, inl, inr, ⊎_elim, ℕ, ◌<◌, Bool, List, [], ◌∷◌, ◌++◌, length, map, take, Option, Some, refl, sym, ◌∙◌, ap, subst, append_assoc}
 use Rattle.std.proofs.lemmas.List.{append-nil}
-use Rattle.sw_disk.specs.Calls.{Call, ListNames, ReadFile, RemoveFile, SyncDir}
+use Rattle.std.specs.Prelude.{⊤}
+use Rattle.sw_disk.specs.Calls.{Call, ListFolders, ListNames, ReadFile, WriteTmp, SyncTmp, PublishTmp, RenameFile, RemoveFile, SyncDir}
 use Rattle.sw_disk.specs.Folder.{Change, Content, Remove, Rename}
 use Rattle.sw_hashpath.specs.FileName.{file_name_text}
 use Rattle.sw_hashpath.specs.Place.{PlaceModel, folder_of}
@@ -24,9 +25,17 @@ use Rattle.sw_objsrv.specs.Node.{IsUnchanging}
 
 -- ---- lists of calls
 
+-- no file is published but one that was written before
+abbrev pub PublishOwn : List Call → Type 0
+PublishOwn [] = ⊤
+PublishOwn (WriteTmp bytes ∷ calls) = ⊤
+PublishOwn (PublishTmp folder name ∷ calls) = ⊥
+PublishOwn (call ∷ calls) = PublishOwn calls
+
 -- these calls make these changes of the folder, and none of another
 pub record Does (folder : List ℕ) (calls : List Call) (changes : List Change) : Type 0 where
   pub makes : Makes folder calls changes
+  pub own : PublishOwn calls
   pub alone : (other : List ℕ) → other ≢ folder → (temporary : Option Content) → changes_by other calls temporary ≡ []
 
 joined : (folder : List ℕ) (xs ys : List Call) (changes : List Change) → ((temporary : Option Content) → changes_by folder ys temporary ≡ changes) → (temporary : Option Content)
@@ -41,21 +50,41 @@ both_synced : (xs ys : List Change) → AreSyncedChanges xs → AreSyncedChanges
 both_synced [] ys first second = second
 both_synced (x ∷ xs) ys first second = (first.0, both_synced xs ys first.1 second)
 
+own_too : (xs ys : List Call) → PublishOwn xs → PublishOwn ys → PublishOwn (xs ++ ys)
+own_too [] ys first second = second
+own_too (ListFolders ∷ xs) ys first second = own_too xs ys first second
+own_too (ListNames folder ∷ xs) ys first second = own_too xs ys first second
+own_too (ReadFile folder name ∷ xs) ys first second = own_too xs ys first second
+own_too (WriteTmp bytes ∷ xs) ys first second = tt
+own_too (SyncTmp ∷ xs) ys first second = own_too xs ys first second
+own_too (PublishTmp folder name ∷ xs) ys first second = absurd first
+own_too (RenameFile folder from to ∷ xs) ys first second = own_too xs ys first second
+own_too (RemoveFile folder name ∷ xs) ys first second = own_too xs ys first second
+own_too (SyncDir folder ∷ xs) ys first second = own_too xs ys first second
+
 module _ (folder : List ℕ) where
+  own_removals : (names : List (List ℕ)) → PublishOwn (map (RemoveFile folder) names ++ SyncDir folder ∷ [])
+  own_removals [] = tt
+  own_removals (name ∷ names) = own_removals names
+
+  own_purge : (names : List (List ℕ)) → PublishOwn (purge_calls folder names)
+  own_purge [] = tt
+  own_purge (name ∷ names) = own_removals names
+
   does_none : Does folder [] []
-  does_none = record { makes = record { made = λ temporary. refl; synced = tt; ends = inl refl }; alone = λ other differs temporary. refl }
+  does_none = record { makes = record { made = λ temporary. refl; synced = tt; ends = inl refl }; own = tt; alone = λ other differs temporary. refl }
 
   does_read : (name : List ℕ) → Does folder (ReadFile folder name ∷ []) []
-  does_read name = record { makes = record { made = λ temporary. refl; synced = tt; ends = inl refl }; alone = λ other differs temporary. refl }
+  does_read name = record { makes = record { made = λ temporary. refl; synced = tt; ends = inl refl }; own = tt; alone = λ other differs temporary. refl }
 
   does_store : (name bytes : List ℕ) → Does folder (store_calls folder name bytes) (new_file name bytes ∷ [])
-  does_store name bytes = record { makes = makes_store folder name bytes; alone = λ other differs. store_alone folder other differs name bytes }
+  does_store name bytes = record { makes = makes_store folder name bytes; own = tt; alone = λ other differs. store_alone folder other differs name bytes }
 
   does_commit : (plain durable : List ℕ) → Does folder (commit_calls folder plain durable) (Rename plain durable ∷ [])
-  does_commit plain durable = record { makes = makes_commit folder plain durable; alone = λ other differs. commit_alone folder other differs plain durable }
+  does_commit plain durable = record { makes = makes_commit folder plain durable; own = tt; alone = λ other differs. commit_alone folder other differs plain durable }
 
   does_drop : (name : List ℕ) → Does folder (drop_calls folder name) (Remove name ∷ [])
-  does_drop name = record { makes = makes_drop folder name; alone = λ other differs. drop_alone folder other differs name }
+  does_drop name = record { makes = makes_drop folder name; own = tt; alone = λ other differs. drop_alone folder other differs name }
 
   module _ (calls : List Call) (changes : List Change) (does : Does folder calls changes) where
     -- a look comes first
@@ -66,6 +95,7 @@ module _ (folder : List ℕ) where
         synced = does.makes.synced;
         ends = ⊎_elim (λ none. inl none) (λ last. inr (ListNames folder ∷ last.0, ap (λ (more : List Call). ListNames folder ∷ more) last.1)) does.makes.ends;
       };
+      own = does.own;
       alone = does.alone;
     }
 
@@ -83,6 +113,7 @@ module _ (folder : List ℕ) where
             synced = both_synced changes (map Remove names) does.makes.synced purge.synced;
             ends = purge_ends names;
           };
+          own = own_too calls (purge_calls folder names) does.own (own_purge names);
           alone = λ other differs temporary.
               joined other calls (purge_calls folder names) [] (purge_alone folder other differs names) temporary
               ∙ ap (λ (first : List Change). first ++ []) (does.alone other differs temporary);
@@ -90,14 +121,20 @@ module _ (folder : List ℕ) where
 
 -- ---- rows
 
+-- the first call looks at the folder
+abbrev pub BeginsWithLook : List ℕ → List Call → Type 0
+BeginsWithLook folder calls = (behind : List Call) × (calls ≡ ListNames folder ∷ behind)
+
 -- the row of an answer: its calls make its changes, and there are none where the reply says so
 pub record IsAnswerRow (folder : List ℕ) (handling : Handling) : Type 0 where
+  pub looks : BeginsWithLook folder handling.calls
   pub answers : IsAnswer handling.reply
   pub does : Does folder handling.calls handling.changes
   pub none : IsUnchanging handling.reply → handling.changes ≡ []
 
 -- The row of a full disk: its calls are those of a new file, and it makes no change. The call behind the look is refused.
 pub record IsFullRow (folder : List ℕ) (handling : Handling) : Type 0 where
+  pub looks : BeginsWithLook folder handling.calls
   pub name : List ℕ
   pub bytes : List ℕ
   pub free : ℕ
@@ -116,7 +153,7 @@ moved handling here other same does = subst (λ (place : PlaceModel). IsRow (fol
 module _ (folder : List ℕ) (handling : Handling) where
   after_look : (calls : List Call) (changes : List Change) (reply : Reply) → IsAnswer reply → (IsUnchanging reply → changes ≡ []) → Does folder calls changes → handling ≡ answers_after folder calls changes reply
       → IsRow folder handling
-  after_look calls changes reply answer none does is = subst (IsRow folder) (sym is) (inl (record { answers = answer; does = does_look folder calls changes does; none = none }))
+  after_look calls changes reply answer none does is = subst (IsRow folder) (sym is) (inl (record { looks = (calls, refl); answers = answer; does = does_look folder calls changes does; none = none }))
 
   looked : (reply : Reply) → IsAnswer reply → handling ≡ answers_after folder [] [] reply → IsRow folder handling
   looked reply answer is = after_look [] [] reply answer (λ _. refl) (does_none folder) is
@@ -126,6 +163,7 @@ module _ (folder : List ℕ) (handling : Handling) where
 
   no_room : (name bytes : List ℕ) (free : ℕ) → free < length bytes → handling ≡ answers_after folder (store_calls folder name bytes) [] (NoSpace (length bytes) free) → IsRow folder handling
   no_room name bytes free less is = subst (IsRow folder) (sym is) (inr (record {
+    looks = (store_calls folder name bytes, refl);
     name = name;
     bytes = bytes;
     free = free;
@@ -234,6 +272,13 @@ module _ (cluster : ClusterModel) (device : ℕ) (found : Found) (message : Msg)
   -- the calls of an answer make its changes
   pub makes : IsAnswer handling.reply → Makes (folder_of place) handling.calls handling.changes
   makes answer = ⊎_elim (λ answers. answers.does.makes) (λ full. absurd (subst IsAnswer full.replied answer)) row
+
+  -- each row looks at the folder first, and publishes what it wrote
+  pub begins_with_look : BeginsWithLook (folder_of place) handling.calls
+  begins_with_look = ⊎_elim (λ answers. answers.looks) (λ full. full.looks) row
+
+  pub publishes_own : PublishOwn handling.calls
+  publishes_own = ⊎_elim (λ answers. answers.does.own) (λ full. full.does.own) row
 
   -- no row changes another folder
   pub quiet_elsewhere : (other : List ℕ) → other ≢ folder_of place → (temporary : Option Content) → changes_by other handling.calls temporary ≡ []

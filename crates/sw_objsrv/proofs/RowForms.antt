@@ -25,14 +25,15 @@ use Rattle.sw_archive.proofs.Archives.{code_bounds}
 use Rattle.sw_message.specs.Message.{is_primary, place_in}
 use Rattle.sw_message.specs.Spoil.{IsArchiveOf}
 use Rattle.sw_message.specs.Step.{IsFound}
-use Rattle.sw_message.specs.Table.{ArePurged, Found, Handling, HandlesCommit, HandlesDelete, HandlesFetch, HandlesPutFrag, HandlesRemove, IsHandled, IsUncovered, LacksEntry, answers_after, durable_text, plain_text, tombstone_text}
+use Rattle.sw_message.specs.Table.{Allows, ArePurged, Found, Handling, HandlesCommit, HandlesDelete, HandlesFetch, HandlesPutFrag, HandlesRemove, IsHandled, IsUncovered, LacksEntry, answers_after, durable_text, plain_text, tombstone_text}
 use Rattle.sw_message.specs.declared.message.Msg.{Msg}
 use Rattle.sw_message.specs.declared.message.Msg.TheVariants as message
 use Rattle.sw_message.specs.declared.reply.Reply.{Reply}
 use Rattle.sw_message.specs.declared.reply.Reply.TheVariants.{Committed, Deleted, Fragment, Gone, Held, Kept, Missing, NoSpace, Removed, Spoiled, Superseded, Synced}
 use Rattle.sw_objsrv.specs.Folder.{IsInOrder}
 use Rattle.sw_objsrv.specs.Handling.{IsStamped}
-use Rattle.sw_objsrv.proofs.Purging.{ArePurging, IsTidy, in_order_tidy, purged_parts, tidy_by, tidy_names}
+use Rattle.sw_objsrv.proofs.MadeFiles.{StaysMade, committed_stays, none_gone, tombstone_stays}
+use Rattle.sw_objsrv.proofs.Purging.{ArePurging, IsTidy, in_order_tidy, purged_files, purged_parts, tidy_by, tidy_names}
 
 -- ---- the names that a row leaves
 
@@ -117,6 +118,21 @@ module _ (primary : Bool) (files : List File) (names : List FileName) (directory
     ascend = purged.ascend;
   }
 
+  -- and neither goes as obsolete
+  later_name : (made : FileName) → IsFileName made → (later : List FileName) → IsAfter made names later → (name : FileName) → Contains later name → IsFileName name
+  later_name made is_made later is_after name there = ⊎_elim (λ here. subst IsFileName (sym here) is_made) (λ before. ((directory name).0 before.0).0) ((is_after name).0 there)
+
+  durable_is_left : (stamp index : ℕ) (obsolete : List (List ℕ)) → Contains names (Data stamp index false) → ArePurged primary (Data stamp index true) names obsolete → ((name : FileName) → IsObsolete primary names name → ⊥)
+      → StaysMade files (Rename (plain_text stamp index) (durable_text stamp index)) obsolete
+  durable_is_left stamp index obsolete has purged none =
+      let is_name = ((directory (Data stamp index false)).0 has).0 in
+      committed_stays primary files names purged.later obsolete purged.all (later_name (Data stamp index true) is_name purged.later purged.after) stamp index is_name purged.after has none
+
+  tombstone_is_left : (stamp : ℕ) (obsolete : List (List ℕ)) → stamp ≤ greatest_stamp → ArePurged primary (Tombstone stamp) names obsolete → Allows names stamp → StaysMade files (new_file (tombstone_text stamp) []) obsolete
+  tombstone_is_left stamp obsolete is_stamp purged allows =
+      tombstone_stays primary files names purged.later obsolete purged.all (later_name (Tombstone stamp) is_stamp purged.later purged.after)
+      stamp (record { name = tombstone_text stamp; content = record { bytes = []; synced = true } }) refl is_stamp purged.after allows
+
   -- a name that goes at a handoff
   removed : (gone : FileName) → Contains names gone → primary ≡ false → ((name : FileName) → IsObsolete primary names name → ⊥) → AreObsolete primary (names_of (changed (Remove (file_name_text gone)) files)) []
   removed gone has handoff none =
@@ -150,9 +166,9 @@ module _ (place : PlaceModel) (primary : Bool) (files : List File) (found : Foun
   changes_none : (calls : List Call) (reply : Reply) → handling ≡ answers_after folder calls [] reply → ArePurging primary files handling.changes
   changes_none calls reply is = inl (ap (λ (h : Handling). h.changes) is)
 
-  purges : (calls : List Call) (change : Change) (obsolete : List (List ℕ)) (reply : Reply) → AreObsolete primary (names_of (changed change files)) obsolete → handling ≡ answers_after folder calls (change ∷ map Remove obsolete) reply
-      → ArePurging primary files handling.changes
-  purges calls change obsolete reply are is = inr (change, obsolete, ap (λ (h : Handling). h.changes) is, are)
+  purges : (calls : List Call) (change : Change) (obsolete : List (List ℕ)) (reply : Reply) → AreObsolete primary (names_of (changed change files)) obsolete → StaysMade files change obsolete
+      → handling ≡ answers_after folder calls (change ∷ map Remove obsolete) reply → ArePurging primary files handling.changes
+  purges calls change obsolete reply are stays is = inr (change, obsolete, ap (λ (h : Handling). h.changes) is, are, stays)
 
   put_purges : (cluster : ClusterModel) (stamp index : ℕ) (bytes : List ℕ) → HandlesPutFrag cluster place stamp index bytes found handling → ArePurging primary files handling.changes
   put_purges cluster stamp index bytes row = ⊎_elim
@@ -165,7 +181,8 @@ module _ (place : PlaceModel) (primary : Bool) (files : List File) (found : Foun
       (λ full. changes_none (store_calls folder (plain_text stamp index) bytes) (NoSpace (length bytes) found.room) full.1)
       (λ fits.
       purges (store_calls folder (plain_text stamp index) bytes) (new_file (plain_text stamp index) bytes) [] Synced
-      (stored primary files found.names directory stamp index bytes (archive_name cluster place stamp index bytes sound.0) lacking.0 free.0 none) fits.1)
+      (stored primary files found.names directory stamp index bytes (archive_name cluster place stamp index bytes sound.0) lacking.0 free.0 none)
+      (none_gone files (new_file (plain_text stamp index) bytes)) fits.1)
       lacking.1)
       free.1)
       sound.1)
@@ -177,7 +194,7 @@ module _ (place : PlaceModel) (primary : Bool) (files : List File) (found : Foun
       (λ other. ⊎_elim
       (λ plain.
       purges (commit_calls folder (plain_text stamp index) (durable_text stamp index) ++ purge_calls folder plain.1) (Rename (plain_text stamp index) (durable_text stamp index)) plain.1 Committed
-      (committed primary files found.names directory stamp index plain.1 plain.0.0 plain.2) plain.3)
+      (committed primary files found.names directory stamp index plain.1 plain.0.0 plain.2) (durable_is_left primary files found.names directory stamp index plain.1 plain.0.0 plain.2 none) plain.3)
       (λ lacking. ⊎_elim
       (λ covered. changes_none [] (Superseded covered.0) covered.2)
       (λ free. changes_none [] Missing free.1)
@@ -192,7 +209,7 @@ module _ (place : PlaceModel) (primary : Bool) (files : List File) (found : Foun
       (λ there. changes_none [] (Deleted allowed.1) there.1)
       (λ new.
       purges (store_calls folder (tombstone_text stamp) [] ++ purge_calls folder new.1) (new_file (tombstone_text stamp) []) new.1 (Deleted allowed.1)
-      (buried primary files found.names directory stamp new.1 is_stamp new.2) new.3)
+      (buried primary files found.names directory stamp new.1 is_stamp new.2) (tombstone_is_left primary files found.names directory stamp new.1 is_stamp new.2 allowed.0) new.3)
       allowed.3)
       row
 
@@ -216,7 +233,7 @@ module _ (place : PlaceModel) (primary : Bool) (files : List File) (found : Foun
       (λ there.
       let name = Data stamp index there.0 in
       purges (drop_calls folder (file_name_text name)) (Remove (file_name_text name)) [] Removed
-      (removed primary files found.names directory name (entry_there found.names stamp index there.0 there.1) handoff.0 none) there.2)
+      (removed primary files found.names directory name (entry_there found.names stamp index there.0 there.1) handoff.0 none) (none_gone files (Remove (file_name_text name))) there.2)
       handoff.1)
       row
 
@@ -259,3 +276,7 @@ module _ (cluster : ClusterModel) (device room : ℕ) (found : Found) (message :
   -- after some first part of a row's changes the folder has the normal form of its start, or of its end
   pub parts : (part : List File) → IsFirstPart handling.changes files part → IsNormalForm primary part files ⊎ IsNormalForm primary part (all_changed handling.changes files)
   parts = purged_parts primary files handling.changes purging tidy
+
+  -- and has files of these
+  pub part_files : (part : List File) → IsFirstPart handling.changes files part → (file : File) → Contains part file → Contains files file ⊎ Contains (all_changed handling.changes files) file
+  part_files = purged_files primary files handling.changes purging tidy

@@ -133,8 +133,10 @@ IsAnswered seen left_since cluster device floors message result old new = Handle
 abbrev pub folders_of : State → Folders
 folders_of state name = files_of (state.folder name)
 
--- brought to normal form, these files are those of the folder before the step, or after it
-abbrev pub IsBeforeOrAfter : ClusterModel → (device room : ℕ) → Msg → PlaceModel → Folders → List File → Type 0
-IsBeforeOrAfter cluster device room message place before files =
-    IsNormalForm (is_primary cluster device place) files (before (folder_of place))
-    ⊎ ((after : Folders) × (reply : Reply) × IsNodeStep cluster device room message before after reply × IsNormalForm (is_primary cluster device place) files (after (folder_of place)))
+-- Brought to normal form, these files are those of the folder before the step, or after it; and each of them is a file of the folder
+-- before, or of what a step of this message leaves there.
+pub record IsBeforeOrAfter (cluster : ClusterModel) (device room : ℕ) (message : Msg) (place : PlaceModel) (before : Folders) (files : List File) : Type 0 where
+  pub normal : IsNormalForm (is_primary cluster device place) files (before (folder_of place))
+      ⊎ ((after : Folders) × (reply : Reply) × IsNodeStep cluster device room message before after reply × IsNormalForm (is_primary cluster device place) files (after (folder_of place)))
+  pub each : (file : File) → Contains files file → Contains (before (folder_of place)) file
+      ⊎ ((after : Folders) × (reply : Reply) × IsNodeStep cluster device room message before after reply × Contains (after (folder_of place)) file)

@@ -36,8 +36,12 @@ pub record IsNode {D : Type 0} (cluster : ClusterModel) (seen : D → Seen) (nod
   pub power_is : node.power ≡ cluster.part_power
   pub member : IsMember cluster node.device
   pub in_order : node.is_due ≡ false → IfTold (seen node.disk).told (AreInOrder cluster node.device node.floors)
-  -- the bytes that are used are those of all files, also while a remount is due
-  pub accounted : IfTold (seen node.disk).told IsAccounted
+  -- the bytes that are used are those of all files
+  pub accounted : node.is_due ≡ false → IfTold (seen node.disk).told IsAccounted
+
+-- where the bytes that are used were those of all files, they are
+abbrev pub StaysAccounted : Seen → Seen → Type 0
+StaysAccounted old new = IfTold old.told IsAccounted → IfTold new.told IsAccounted
 
 -- a fact of what a disk held and holds, where it tells
 abbrev pub IfBothStates : Seen → Seen → (State → State → Type 0) → Type 0
@@ -87,6 +91,7 @@ pub record Handled {D : Type 0} (seen : D → Seen) (left_since : D → Past) (c
   pub due : reply ≡ DiskFault → new.is_due ≡ true
   pub failed : reply ≡ DiskFault → (seen new.disk).faults ≡ one_more (seen old.disk).faults
   pub quiet : reply ≢ DiskFault → (seen new.disk).faults ≡ (seen old.disk).faults
+  pub accounted : StaysAccounted (seen old.disk) (seen new.disk)
   pub device : new.device ≡ old.device
 
 -- what a remount leaves of a node
@@ -94,6 +99,7 @@ pub record Remounts {D : Type 0} (seen : D → Seen) (left_since : D → Past) (
   pub mounts : Mounts seen left_since cluster old.device fault old.disk new.disk
   pub is_due : fault ≡ None → new.is_due ≡ false
   pub due : (reason : MountFault) → fault ≡ Some reason → new.is_due ≡ true
+  pub accounted : StaysAccounted (seen old.disk) (seen new.disk)
   pub device : new.device ≡ old.device
 
 abbrev pub mount_reply : MountFault → Reply

@@ -1,6 +1,7 @@
 //! Nodes.
 
-ghost use Rattle.std.specs.Prelude.{◌≡◌, IfErr, IfOk, None, Some, false};
+ghost use Rattle.std.specs.Prelude.{◌≡◌, IfErr, IfOk, None, Some, false, true};
+ghost use Rattle.std.specs.Borrow.{Lends, sem};
 ghost use Rattle.sw_message.specs.Message.{IsMember, IsPlaceOf, place_in};
 ghost use Rattle.sw_objsrv.specs.Handling.{refused_reply};
 ghost use Rattle.sw_objsrv.specs.Mounting.{Mounts, fault_of};
@@ -34,6 +35,8 @@ impl<D> Model for Node<D> {
 }
 
 impl<D: Disk> Node<D> {
+    ghost use Rattle.sw_objsrv.specs.contracts.node.Node.{the_row};
+
     /// The node of a device over a disk, whose places are mounted: the folder of each is brought to normal form, with nothing
     /// pending. Where that is refused the disk is handed back.
     pub fn mount(
@@ -113,6 +116,13 @@ impl<D: Disk> Node<D> {
         Ok(())
     }
 
+    /// Its device lost power: it mounts its places before it handles a message.
+    pub fn lose_power(&mut self)
+        ensures { self.new ≡ record self.old { is_due = true } }
+    {
+        self.is_due = true;
+    }
+
     /// Its disk.
     pub fn unmount(self) -> D
         ensures { result ≡ self.disk }
@@ -125,6 +135,14 @@ impl<D: Disk> Node<D> {
         ensures { result.now ≡ self.now.disk }
     {
         &self.disk
+    }
+
+    /// Its disk, lent for change: the node is the same but for what is left of it.
+    pub fn disk_mut(&mut self) -> &mut D
+        ensures value { result.now ≡ self.old.disk }
+        ensures* writes_back { sem 𝓛 (Lends (the_row D.row) D.row self.entry result (λ disk. record self.old { disk = disk })) }
+    {
+        &mut self.disk
     }
 }
 

@@ -1,4 +1,4 @@
-use Rattle.std.proofs.Common.{◌≡◌, false, List, Some, ap, refl, subst, sym, ◌∙◌}
+use Rattle.std.proofs.Common.{◌≡◌, ℕ, false, List, Some, ap, refl, subst, sym, ◌∙◌}
 use Rattle.std.specs.List.{slice_get}
 use Rattle.std.specs.Vec.{with_items}
 use Rattle.std.proofs.lemmas.List.{with_items_is}
@@ -42,11 +42,14 @@ mine c =
     let same : (handled c).old ≡ (there c).0 = let first = (handled c).at in let second = (there c).1 in cc in
     ap (λ (node : MemNode). node.device) same ∙ (there c).2
 
+up : (c : goal.After-self-3-1) → is_among (all c).down (handled c).old.device ≡ false
+up c = ap (λ (id : ℕ). is_among (all c).down id) (mine c) ∙ ap (λ (model : NodesModel). is_among model.down c.args.device) c.self.view_is ∙ sym c.is_down.ensures ∙ c.if-is_down.false
+
 pub invariant_of-self-2 : goal.invariant_of-self-2
 invariant_of-self-2 c =
     let right = subst (λ (model : NodesModel). IsPlaceOf model.cluster (place_in c.args.msg.now)) (sym c.self.view_is) (c.requires.known c.args.self.now.cluster refl).place in
     subst (λ (nodes : List MemNode). AreNodes (record (all c) { nodes = nodes; is_wanting = c.if-self.self })) (sym (items c))
-    (are_after (all c) c.self.invariant c.unwrap-place.result c.args.msg.now c.handle_at-reply.result c.handle_at-reply.new.nodes (handled c) right c.if-self.self (says c))
+    (are_after (all c) c.self.invariant c.unwrap-place.result c.args.msg.now c.handle_at-reply.result c.handle_at-reply.new.nodes (handled c) right (up c) c.if-self.self (says c))
 
 pub returns-clause-calls : goal.returns-clause-calls
 returns-clause-calls c =
