@@ -19,9 +19,10 @@ use Rattle.sw_get.specs.Get.{IsEnd, IsNext}
 use Rattle.sw_get.specs.declared.end.GetEnd.{GetEnd}
 use Rattle.sw_get.specs.declared.end.GetEnd.TheVariants as gets
 use Rattle.sw_scene.specs.Devices.{Devices}
-use Rattle.sw_scene.specs.Filed.{AreFiled, IsFiled}
+use Rattle.sw_scene.specs.Filed.{AreFiled, FoldersFiled, IsFiled}
 use Rattle.sw_scene.specs.Running.{RunsAlone, learnt_of}
 use Rattle.sw_scene.proofs.Filed.{same_filed}
+use Rattle.sw_scene.proofs.Held.{mounted-filed}
 use Rattle.sw_core.proofs.Jobs.{revert-alone, sync-alone}
 use Rattle.sw_core.proofs.Operations.{delete-alone, found-put, get-alone, put-alone}
 use Rattle.sw_script.specs.declared.event.Event.{Event}
@@ -33,7 +34,7 @@ use Rattle.sw_told.specs.declared.end.OpEnd.{OpEnd}
 use Rattle.sw_told.specs.declared.end.OpEnd.TheVariants.{Put, Delete, Sync, Revert}
 use Rattle.sw_told.specs.declared.told.Told.{Told}
 use Rattle.sw_play.specs.Story.{AllTellOnePut, AreDone, Done, IfFound, IfFoundEnd, IsOfName}
-use Rattle.sw_play.specs.World.{DoesDelete, DoesEvent, DoesGet, DoesPut, DoesRecon, IsDrawn, IsSound, RanRecon, World, ended, get_of, gets_as, next_stamp, put_of, revert_of, sync_of}
+use Rattle.sw_play.specs.World.{DoesDelete, DoesEvent, DoesGet, DoesPut, DoesRecon, DoesRestart, IsDrawn, IsSound, RanRecon, World, ended, get_of, gets_as, next_stamp, put_of, revert_of, sync_of}
 
 -- ---- stamps
 
@@ -156,6 +157,14 @@ module _ (cluster : ClusterModel) (before : World) (sound : IsSound cluster befo
     filed = recon_filed device name (one_more before.operations) does.member (is_primary cluster device (place_of_name cluster name)) refl does.ran;
   })
 
+  restart_filed : (device : ℕ) (b : Bool) → before.down device ≡ b → DoesRestart cluster before device past told after → AreFiled cluster before.book after.devices
+  restart_filed device false up does = same_filed cluster before.book before.devices after.devices (does.same up) sound.filed
+  restart_filed device true was_down does = λ other. ⊎_elim
+      (λ mine. subst (λ (id : ℕ). FoldersFiled cluster before.book (after.devices id)) (sym mine)
+      (mounted-filed cluster (learnt_of before.book before.marks past) device (before.devices device) (after.devices device) (does.mounted was_down) (sound.filed device)))
+      (λ differs place right. subst (All (IsFiled cluster before.book place)) (sym (does.others other differs (folder_of place))) (sound.filed other place right))
+      (cases_eq other device)
+
   after_job : (run : Job) → DoesEvent cluster before (event.Run run) past told after → IsSound cluster after
   after_job (job.Put name object) does = after_put name object does
   after_job (job.Get name) does = after_get name false does
@@ -173,7 +182,7 @@ module _ (cluster : ClusterModel) (before : World) (sound : IsSound cluster befo
   sound_after (event.Crash message calls pick) does = absurd does
   sound_after (event.Stop device) does = subst (IsSound cluster) (sym does.after_is) (record { rules = sound.rules; book = sound.book; drawn = sound.drawn; filed = sound.filed })
   sound_after (event.Restart device) does = subst (IsSound cluster) (sym does.after_is)
-      (record { rules = sound.rules; book = sound.book; drawn = sound.drawn; filed = same_filed cluster before.book before.devices after.devices does.same sound.filed })
+      (record { rules = sound.rules; book = sound.book; drawn = sound.drawn; filed = restart_filed device (before.down device) refl does })
   sound_after (event.Lose device) does = subst (IsSound cluster) (sym does.after_is)
       (record { rules = sound.rules; book = sound.book; drawn = sound.drawn; filed = emptied_filed cluster before.book device before.devices after.devices does.empty does.others sound.filed })
   sound_after (event.GiveUp operation) does = absurd does

@@ -15,9 +15,11 @@ use Rattle.sw_archive.proofs.Archives.{put_is_archive}
 use Rattle.sw_ring.specs.Cluster.{ClusterModel, KeepsRules, place_of_name}
 use Rattle.sw_ring.specs.Ring.{is_among}
 use Rattle.sw_message.specs.Message.{IsMember, is_primary}
+use Rattle.sw_message.specs.Step.{Folders}
 use Rattle.sw_message.specs.Transcript.{Step}
 use Rattle.sw_message.specs.Warrant.{IsOfPut}
 use Rattle.sw_nodes.specs.Nodes.{Loses, MemNode, NodesModel, Restarts, Stops, devices_of}
+use Rattle.sw_scene.specs.Disks.{IsMounted}
 use Rattle.sw_scene.specs.Filed.{IsFiled}
 use Rattle.sw_script.specs.declared.event.Event.{Event}
 use Rattle.sw_script.specs.declared.event.Event.TheVariants as event
@@ -159,7 +161,7 @@ module _ (old : WorldModel) (before : World) (stands : StandsFor old before) (ne
 pub number_of : (found : Option ℕ) (device number : ℕ) → found ≡ Some device → IfSome found (λ id. id ≡ number) → device ≡ number
 number_of found device number is named = subst (λ (one : Option ℕ). IfSome one (λ id. id ≡ number)) is named
 
-module _ (inside : Inside) (left : NodesModel) (device : ℕ) (told : Told) (none : told ≡ record { ends = []; shown = [] }) (before : World) (stands : StandsFor (world_seen inside) before) where
+module _ (inside : Inside) (left : NodesModel) (device : ℕ) (told : Told) (none : told ≡ record { sent = []; ends = []; shown = [] }) (before : World) (stands : StandsFor (world_seen inside) before) where
   abbrev later : WorldModel
   later = world_seen (record inside { nodes = left })
 
@@ -182,13 +184,21 @@ module _ (inside : Inside) (left : NodesModel) (device : ℕ) (told : Told) (non
       let files = λ (other : ℕ) (name : List ℕ). stands.devices other name ∙ ap (λ (all : NodesModel). devices_of all.nodes other name) (sym stops.after_is) in
       ([], after, does, leads inside.nodes.nodes left.down stops.after_is after (event.Stop device) does files (λ other. refl) refl refl)
 
-  pub restart_stands : Restarts inside.nodes device left → LeadsQuietly (DoesRestart before device)
+  mounted_before : (later : Folders) → IsMounted inside.nodes.cluster device (devices_of inside.nodes.nodes device) later → IsMounted inside.nodes.cluster device (before.devices device) later
+  mounted_before later is = record {
+    normal = λ place right. rw (stands.devices device (folder_of place)) (is.normal place right);
+    others = λ name none. is.others name none ∙ sym (stands.devices device name);
+  }
+
+  pub restart_stands : Restarts inside.nodes device left → LeadsQuietly (DoesRestart inside.nodes.cluster before device)
   restart_stands restarts =
       let after : World = record before { devices = devices_of left.nodes; down = is_among left.down } in
-      let does : DoesRestart before device [] told after = record {
+      let does : DoesRestart inside.nodes.cluster before device [] told after = record {
         quiet = quiet;
         down = λ other. restarts.down other ∙ ap (λ (was : Bool). was && not (other == device)) (sym (stands.down other));
-        same = λ other name. restarts.same other name ∙ sym (stands.devices other name);
+        mounted = λ was_down. mounted_before (devices_of left.nodes device) (restarts.mounted (sym (stands.down device) ∙ was_down));
+        same = λ up other name. ap (λ (nodes : List MemNode). devices_of nodes other name) (restarts.same (sym (stands.down device) ∙ up)) ∙ sym (stands.devices other name);
+        others = λ other differs name. restarts.others other differs name ∙ sym (stands.devices other name);
         after_is = refl;
       } in
       ([], after, does, leads left.nodes left.down restarts.after_is after (event.Restart device) does (λ other name. refl) (λ other. refl) refl refl)
@@ -220,10 +230,10 @@ module _ (model : WorldModel) (world : World) (stands : StandsFor model world) (
       archive_is : {place : PlaceModel} {stamp index : ℕ} {bytes : List ℕ} (of : IsOfPut model.cluster world.book place stamp index bytes) → bytes ≡ put_archive model.cluster.policy of.booked.stamp of.booked.name of.booked.object index
       archive_is of = of.archive ∙ ap (λ (s : ℕ). put_archive model.cluster.policy s of.booked.name of.booked.object _) (sym of.stamp_is)
 
-  pub show_stands : (told : Told) → told.ends ≡ [] → IsShown device there told.shown → (past : List Step) × (after : World) × DoesShow model.cluster world device name past told after × StandsFor model after
-  show_stands told none shown = (
+  pub show_stands : (told : Told) → told.sent ≡ [] → told.ends ≡ [] → IsShown device there told.shown → (past : List Step) × (after : World) × DoesShow model.cluster world device name past told after × StandsFor model after
+  show_stands told unsent none shown = (
     [],
     world,
-    record { no_steps = refl; no_ends = none; shown = subst (λ (files : List File). IsShown device files told.shown) (sym (stands.devices device (folder_of (place_of_name model.cluster name)))) shown; after_is = refl },
+    record { no_steps = refl; none_sent = unsent; no_ends = none; shown = subst (λ (files : List File). IsShown device files told.shown) (sym (stands.devices device (folder_of (place_of_name model.cluster name)))) shown; after_is = refl },
     stands,
   )

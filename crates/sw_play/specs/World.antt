@@ -18,6 +18,7 @@ use Rattle.sw_put.specs.Put as puts
 use Rattle.sw_recon.specs.Revert as reverts
 use Rattle.sw_sync.specs.Sync as syncs
 use Rattle.sw_scene.specs.Devices.{AreSame, Devices, no_files}
+use Rattle.sw_scene.specs.Disks.{IsMounted}
 use Rattle.sw_scene.specs.Filed.{AreFiled}
 use Rattle.sw_scene.specs.Running.{RunsAlone}
 use Rattle.sw_script.specs.declared.event.Event.{Event}
@@ -79,7 +80,7 @@ pub record IsSound (cluster : ClusterModel) (world : World) : Type 0 where
 
 -- the end of an operation alone is told
 abbrev pub ended : ℕ → OpEnd → Told
-ended operation end = record { ends = record { operation = operation; end = end } ∷ []; shown = [] }
+ended operation end = record { sent = []; ends = record { operation = operation; end = end } ∷ []; shown = [] }
 
 abbrev pub put_of : ClusterModel → World → NameModel → ObjectModel → puts.Begun
 put_of cluster world name object = record { cluster = cluster; stamp = next_stamp world.last; name = name; object = object }
@@ -164,6 +165,7 @@ pub record DoesRecon (cluster : ClusterModel) (before : World) (device : ℕ) (n
 -- what the device has in the folder of the name is told
 pub record DoesShow (cluster : ClusterModel) (before : World) (device : ℕ) (name : NameModel) (past : List Step) (told : Told) (after : World) : Type 0 where
   pub no_steps : past ≡ []
+  pub none_sent : told.sent ≡ []
   pub no_ends : told.ends ≡ []
   pub shown : IsShown device (before.devices device (folder_of (place_of_name cluster name))) told.shown
   pub after_is : after ≡ before
@@ -171,7 +173,7 @@ pub record DoesShow (cluster : ClusterModel) (before : World) (device : ℕ) (na
 -- nothing is sent, and nothing told
 pub record IsQuiet (past : List Step) (told : Told) : Type 0 where
   pub no_steps : past ≡ []
-  pub nothing_told : told ≡ record { ends = []; shown = [] }
+  pub nothing_told : told ≡ record { sent = []; ends = []; shown = [] }
 
 -- A device is down from now on. Nothing is pending on its disk, so that the disk is left as it is.
 pub record DoesStop (before : World) (device : ℕ) (past : List Step) (told : Told) (after : World) : Type 0 where
@@ -179,11 +181,13 @@ pub record DoesStop (before : World) (device : ℕ) (past : List Step) (told : T
   pub down : (other : ℕ) → after.down other ≡ (before.down other || other == device)
   pub after_is : after ≡ record before { down = after.down }
 
--- It is up from now on, and has what it had.
-pub record DoesRestart (before : World) (device : ℕ) (past : List Step) (told : Told) (after : World) : Type 0 where
+-- It is up from now on; where it was down its folders were mounted.
+pub record DoesRestart (cluster : ClusterModel) (before : World) (device : ℕ) (past : List Step) (told : Told) (after : World) : Type 0 where
   pub quiet : IsQuiet past told
   pub down : (other : ℕ) → after.down other ≡ (before.down other && not (other == device))
-  pub same : AreSame before.devices after.devices
+  pub mounted : before.down device ≡ true → IsMounted cluster device (before.devices device) (after.devices device)
+  pub same : before.down device ≡ false → AreSame before.devices after.devices
+  pub others : (other : ℕ) → other ≢ device → (name : List ℕ) → after.devices other name ≡ before.devices other name
   pub after_is : after ≡ record before { devices = after.devices; down = after.down }
 
 -- It has no file from now on, and is up or down as it was.
@@ -205,7 +209,7 @@ abbrev pub DoesEvent : ClusterModel → World → Event → List Step → Told �
 DoesEvent cluster before (event.Run job) past told after = DoesJob cluster before job past told after
 DoesEvent cluster before (event.Show device name) past told after = DoesShow cluster before device name past told after
 DoesEvent cluster before (event.Stop device) past told after = DoesStop before device past told after
-DoesEvent cluster before (event.Restart device) past told after = DoesRestart before device past told after
+DoesEvent cluster before (event.Restart device) past told after = DoesRestart cluster before device past told after
 DoesEvent cluster before (event.Lose device) past told after = DoesLose before device past told after
 DoesEvent cluster before other past told after = ⊥
 

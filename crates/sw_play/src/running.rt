@@ -181,6 +181,7 @@ fn tell(alloc: Global, operation: u64, end: OpEnd) -> Result<Told, NoMemory>
     let mut ends = Vec::new(alloc);
     ends.push(EndLine { operation, end })?;
     Ok(Told {
+        sent: Items::from(Vec::new(alloc)),
         ends: Items::from(ends),
         shown: Items::from(Vec::new(alloc)),
     })

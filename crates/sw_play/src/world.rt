@@ -309,7 +309,7 @@ impl<'a> World<'a> {
         requires goes_on { self.old.is_wanting ≡ false }
         requires member { is_among (ids_of self.old.cluster) number ≡ true }
         ensures does { (before : AWorld) → StandsFor self.old before →
-            IfOk result (λ told. (past : List Step) × (after : AWorld) × DoesRestart before number past told after × StandsFor self.new after) }
+            IfOk result (λ told. (past : List Step) × (after : AWorld) × DoesRestart self.old.cluster before number past told after × StandsFor self.new after) }
         ensures fault { IfErr result (λ fault. (fault ≡ StepFault.NoMemory) × (self.new.is_wanting ≡ true)) }
         ensures cluster { self.new.cluster ≡ self.old.cluster }
     {
@@ -363,12 +363,14 @@ fn place_among(devices: &[Device], number: u64) -> Option<usize>
 fn show_at(alloc: Global, nodes: &Nodes<'_>, device: u16, name: &Name) -> Result<Told, NoMemory>
     requires member { IsMember nodes.now.cluster device }
     requires readable { All IsReadable (devices_of nodes.now.nodes device (folder_of (place_of_name nodes.now.cluster name.now))) }
+    ensures none_sent { IfOk result (λ told. told.sent ≡ []) }
     ensures no_ends { IfOk result (λ told. told.ends ≡ []) }
     ensures shown { IfOk result (λ told. IsShown device (devices_of nodes.now.nodes device (folder_of (place_of_name nodes.now.cluster name.now))) told.shown) }
 {
     let place = nodes.cluster().place(alloc, name)?;
     let disk = nodes.disk(device).unwrap();
     Ok(Told {
+        sent: Items::from(Vec::new(alloc)),
         ends: Items::from(Vec::new(alloc)),
         shown: shown(alloc, disk, device, place)?,
     })
@@ -376,9 +378,10 @@ fn show_at(alloc: Global, nodes: &Nodes<'_>, device: u16, name: &Name) -> Result
 
 // Nothing is told.
 fn nothing_told(alloc: Global) -> Told
-    ensures { result ≡ record { ends = []; shown = [] } }
+    ensures { result ≡ record { sent = []; ends = []; shown = [] } }
 {
     Told {
+        sent: Items::from(Vec::new(alloc)),
         ends: Items::from(Vec::new(alloc)),
         shown: Items::from(Vec::new(alloc)),
     }

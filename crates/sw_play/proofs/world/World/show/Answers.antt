@@ -17,4 +17,4 @@ returns-in-Ok-clause-does c before stands =
     let old = world_seen c.self.inside in
     subst (λ (model : WorldModel). (past : List Step) × (after : World) × DoesShow model.cluster before c.args.number c.args.name.now past c.in-Ok.told after × StandsFor model after) c.self.view_is
     (subst (λ (device : ℕ). (past : List Step) × (after : World) × DoesShow old.cluster before device c.args.name.now past c.in-Ok.told after × StandsFor old after) is_number
-    (show_stands old before (subst (λ (model : WorldModel). StandsFor model before) (sym c.self.view_is) stands) c.unwrap-device.result c.args.name.now c.in-Ok.told c.in-Ok.ensures.no_ends c.in-Ok.ensures.shown))
+    (show_stands old before (subst (λ (model : WorldModel). StandsFor model before) (sym c.self.view_is) stands) c.unwrap-device.result c.args.name.now c.in-Ok.told c.in-Ok.ensures.none_sent c.in-Ok.ensures.no_ends c.in-Ok.ensures.shown))
