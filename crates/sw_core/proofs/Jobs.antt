@@ -1,6 +1,6 @@
--- Syncs and reverts that run alone.
-use Rattle.std.proofs.Common.{◌≡◌, ℕ, Bool, true, false, List, [], refl, sym, subst}
-use Rattle.sw_message.specs.Learnt.{Booked, IsSoundBook, Learnt}
+-- Syncs and reverts: what they hand out may be sent.
+use Rattle.std.proofs.Common.{◌≡◌, ℕ, Bool, true, false, List, refl, sym, subst}
+use Rattle.sw_message.specs.Learnt.{Learnt}
 use Rattle.sw_message.specs.Transcript.{Hand, IsRun, Step, is_waiting}
 use Rattle.sw_message.specs.declared.sent.Sent.{Sent}
 use Rattle.sw_recon.specs.Revert as reverts
@@ -10,10 +10,7 @@ use Rattle.sw_recon.specs.declared.status.Status.TheVariants.{Ends, Starts, Trea
 use Rattle.sw_recon.proofs.Handings.{own_handed, treats_handed}
 use Rattle.sw_sync.specs.Sync as syncs
 use Rattle.sw_sync.proofs.Machine as machine
-use Rattle.sw_scene.specs.Devices.{Devices}
-use Rattle.sw_scene.specs.Filed.{AreFiled}
-use Rattle.sw_scene.specs.Running.{RunsAlone, learnt_of}
-use Rattle.sw_scene.proofs.Alone.{HandsWarranted, alone}
+use Rattle.sw_core.proofs.Warranting.{HandsWarranted}
 
 -- ---- syncs
 
@@ -23,12 +20,6 @@ sync-hands begun learnt valid = λ past sent run known next.
       (machine.hands_of begun valid past next.0 next.2.1 sent run next.1 hands).place,
       machine.hands_warranted begun valid past next.0 next.2.1 sent learnt run next.1 hands known,
     )
-
-pub sync-alone : (begun : syncs.Begun) (book : List Booked) (down : ℕ → Bool) (before after : Devices) (past : List Step) → syncs.IsBegun begun → IsSoundBook begun.cluster.policy book
-    → AreFiled begun.cluster book before → RunsAlone begun.cluster down (syncs.IsNext begun) before past after → AreFiled begun.cluster book after
-sync-alone begun book down before after past valid sound were runs =
-    let learnt : Learnt = learnt_of book [] past in
-    (alone begun.cluster down (syncs.IsNext begun) learnt sound (sync-hands begun learnt valid) before were past after runs.run runs.handled (λ one there. there)).1
 
 -- ---- reverts
 
@@ -54,9 +45,3 @@ module _ (begun : reverts.Begun) (learnt : Learnt) (valid : reverts.IsBegun begu
 
 pub revert-hands : (begun : reverts.Begun) (learnt : Learnt) → reverts.IsBegun begun → HandsWarranted begun.cluster (reverts.IsNext begun) learnt
 revert-hands begun learnt valid = λ past sent run known next. let may = may_send begun learnt valid past sent run next in (may.of.place, may.warranted learnt known)
-
-pub revert-alone : (begun : reverts.Begun) (book : List Booked) (down : ℕ → Bool) (before after : Devices) (past : List Step) → reverts.IsBegun begun → IsSoundBook begun.cluster.policy book
-    → AreFiled begun.cluster book before → RunsAlone begun.cluster down (reverts.IsNext begun) before past after → AreFiled begun.cluster book after
-revert-alone begun book down before after past valid sound were runs =
-    let learnt : Learnt = learnt_of book [] past in
-    (alone begun.cluster down (reverts.IsNext begun) learnt sound (revert-hands begun learnt valid) before were past after runs.run runs.handled (λ one there. there)).1

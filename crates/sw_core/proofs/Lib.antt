@@ -9,3 +9,4 @@ pub mod Runs
 pub mod Starting
 pub mod Telling
 pub mod Transcripts
+pub mod Warranting

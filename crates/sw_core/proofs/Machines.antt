@@ -12,10 +12,10 @@ use Rattle.sw_recon.specs.declared.status.Status.{Status}
 use Rattle.sw_recon.specs.declared.status.Status.TheVariants.{Ends, Starts, Treats}
 use Rattle.sw_recon.proofs.Machine as revert_machine
 use Rattle.sw_sync.proofs.Messages as sync_messages
-use Rattle.sw_scene.proofs.Alone.{HandsWarranted}
 use Rattle.sw_core.specs.Operating.{Begun, Delete, Get, Head, IsBegun, IsNext, Put, Revert, Sync, cluster_of, own_of}
 use Rattle.sw_core.proofs.Jobs.{revert-hands, sync-hands}
 use Rattle.sw_core.proofs.Operations.{delete-hands, get-hands, put-hands}
+use Rattle.sw_core.proofs.Warranting.{HandsWarranted}
 
 pub hands : (begun : Begun) (learnt : Learnt) → IsBegun begun → HasOwn (own_of begun) learnt → HandsWarranted (cluster_of begun) (IsNext begun) learnt
 hands (Put begun) learnt valid has = put-hands begun learnt valid has

@@ -1,12 +1,10 @@
--- Puts, gets and deletes that run alone.
-use Rattle.std.proofs.Common.{◌≡◌, ℕ, Bool, true, false, nat_lt, Contains, List, [], ◌∷◌, length, Option, Some, None, subst}
+-- Puts, gets and deletes: what they hand out may be sent.
+use Rattle.std.proofs.Common.{◌≡◌, ℕ, Bool, true, false, nat_lt, Contains, List, length, Option, Some, None, subst}
 use Rattle.std.specs.Prelude.{if◌then◌else◌}
 use Rattle.std.specs.List.{slice_get}
-use Rattle.sw_types.specs.Object.{ObjectModel}
-use Rattle.sw_diskfile.proofs.Lists.{Contains-first}
-use Rattle.sw_message.specs.Learnt.{AreKnown, Booked, IsSoundBook, Learnt, Marked}
+use Rattle.sw_message.specs.Learnt.{Learnt}
 use Rattle.sw_message.specs.Message.{IsPlaceOf, place_in}
-use Rattle.sw_message.specs.Transcript.{Hand, Over, Step}
+use Rattle.sw_message.specs.Transcript.{Hand, Over}
 use Rattle.sw_message.specs.Warrant.{IsWarranted}
 use Rattle.sw_message.specs.declared.sent.Sent.{Sent}
 use Rattle.sw_message.specs.declared.target.Target.{Target}
@@ -14,20 +12,14 @@ use Rattle.sw_quorum.specs.Places.{place_right}
 use Rattle.sw_delete.specs.Delete as deletes
 use Rattle.sw_delete.proofs.Devices as delete_devices
 use Rattle.sw_delete.proofs.Transcripts as delete_transcripts
-use Rattle.sw_get.specs.Causes.{IsPutFound}
 use Rattle.sw_get.specs.Get as gets
 use Rattle.sw_get.specs.Round.{all_devices}
-use Rattle.sw_get.specs.declared.end.GetEnd.TheVariants.{Found}
 use Rattle.sw_get.specs.declared.round_end.Going.{Going}
 use Rattle.sw_get.specs.declared.round_end.Going.TheVariants as going
-use Rattle.sw_get.proofs.Founds.{found_put}
 use Rattle.sw_put.specs.Put as puts
 use Rattle.sw_put.proofs.Transcripts as put_transcripts
 use Rattle.sw_put.proofs.Warrants as put_warrants
-use Rattle.sw_scene.specs.Devices.{Devices}
-use Rattle.sw_scene.specs.Filed.{AreFiled}
-use Rattle.sw_scene.specs.Running.{RunsAlone, learnt_of}
-use Rattle.sw_scene.proofs.Alone.{HandsWarranted, alone}
+use Rattle.sw_core.proofs.Warranting.{HandsWarranted}
 
 -- ---- puts
 
@@ -37,13 +29,6 @@ put-hands begun learnt valid has = λ past sent run known next.
     let is = (put_transcripts.handed begun past sent next).1 in
     ((put_warrants.is_of begun past sent valid run is).place, put_warrants.warranted begun learnt past sent valid run has known is)
 
-pub put-alone : (begun : puts.Begun) (book : List Booked) (down : ℕ → Bool) (before after : Devices) (past : List Step) → puts.IsBegun begun → IsSoundBook begun.cluster.policy book
-    → Contains book (record { stamp = begun.stamp; name = begun.name; object = begun.object }) → AreFiled begun.cluster book before → RunsAlone begun.cluster down (puts.IsNext begun) before past after
-    → AreFiled begun.cluster book after
-put-alone begun book down before after past valid sound has were runs =
-    let learnt : Learnt = learnt_of book [] past in
-    (alone begun.cluster down (puts.IsNext begun) learnt sound (put-hands begun learnt valid has) before were past after runs.run runs.handled (λ one there. there)).1
-
 -- ---- deletes
 
 pub delete-hands : (begun : deletes.Begun) (learnt : Learnt) → deletes.IsBegun begun → Contains learnt.marks (record { stamp = begun.stamp; name = begun.name })
@@ -51,13 +36,6 @@ pub delete-hands : (begun : deletes.Begun) (learnt : Learnt) → deletes.IsBegun
 delete-hands begun learnt valid has = λ past sent run known next.
     let is = (delete_transcripts.handed begun past sent next).1 in
     ((delete_devices.is_of begun past sent valid is).place, delete_devices.is_warranted begun past sent learnt has is)
-
-pub delete-alone : (begun : deletes.Begun) (book : List Booked) (down : ℕ → Bool) (before after : Devices) (past : List Step) → deletes.IsBegun begun → IsSoundBook begun.cluster.policy book
-    → AreFiled begun.cluster book before → RunsAlone begun.cluster down (deletes.IsNext begun) before past after → AreFiled begun.cluster book after
-delete-alone begun book down before after past valid sound were runs =
-    let own : Marked = record { stamp = begun.stamp; name = begun.name } in
-    let learnt : Learnt = learnt_of book (own ∷ []) past in
-    (alone begun.cluster down (deletes.IsNext begun) learnt sound (delete-hands begun learnt valid (Contains-first own [])) before were past after runs.run runs.handled (λ one there. there)).1
 
 -- ---- gets
 
@@ -92,16 +70,3 @@ module _ (begun : gets.Begun) (learnt : Learnt) (sent : Sent) where
 
 pub get-hands : (begun : gets.Begun) (learnt : Learnt) → HandsWarranted begun.cluster (gets.IsNext begun) learnt
 get-hands begun learnt = λ past sent run known next. sends begun learnt sent next.0 (gets.going_in begun next.0) next.2
-
-module _ (begun : gets.Begun) (book : List Booked) (marks : List Marked) (down : ℕ → Bool) (before after : Devices) (past : List Step) (valid : gets.IsBegun begun) (sound : IsSoundBook begun.cluster.policy book) (were : AreFiled begun.cluster book before) (runs : RunsAlone begun.cluster down (gets.IsNext begun) before past after) where
-  get-kept : AreKnown begun.cluster (learnt_of book marks past) past × AreFiled begun.cluster book after
-  get-kept =
-      alone begun.cluster down (gets.IsNext begun) (learnt_of book marks past) sound (get-hands begun (learnt_of book marks past)) before were past after runs.run runs.handled (λ one there. there)
-
-  pub found-put : (stamp : ℕ) (object : ObjectModel) (sources : List Target) → gets.IsEnd begun past (Found stamp object sources) → IsPutFound begun past (learnt_of book marks past) stamp object sources
-  found-put stamp object sources end =
-      found_put begun past (learnt_of book marks past) stamp object sources valid runs.run (record { one = sound.one; objects = λ booked there. (sound.puts booked there).object_rules }) get-kept.0 end
-
-pub get-alone : (begun : gets.Begun) (book : List Booked) (down : ℕ → Bool) (before after : Devices) (past : List Step) → gets.IsBegun begun → IsSoundBook begun.cluster.policy book → AreFiled begun.cluster book before
-    → RunsAlone begun.cluster down (gets.IsNext begun) before past after → AreFiled begun.cluster book after
-get-alone begun book down before after past valid sound were runs = (get-kept begun book [] down before after past valid sound were runs).1

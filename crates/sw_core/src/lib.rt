@@ -3,4 +3,4 @@
 
 mod laws;
 
-pub use crate::laws::{alone_law, found_law, run_law, tickets_law};
+pub use crate::laws::{run_law, tickets_law};

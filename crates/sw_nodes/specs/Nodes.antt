@@ -103,6 +103,9 @@ abbrev pub Calls : NodesModel → (device : ℕ) → Msg → Option Reply → No
 Calls before device msg (Some reply) after = CallsUp before device msg reply after
 Calls before device msg None after = CallsDown before device after
 
+abbrev pub lost_in : NodesModel → ℕ
+lost_in nodes = nodes.lost
+
 -- ---- devices that stop, restart, and lose their disks
 
 -- A device is down from now on.

@@ -1,10 +1,9 @@
 //! Operations that run alone over the nodes of a cluster.
 
 ghost use Rattle.std.specs.Prelude.{◌≡◌, List, [], OnOk, false, true};
+ghost use Rattle.sw_message.specs.Running.{AreCalls};
 ghost use Rattle.sw_message.specs.Transcript.{Over, Step};
-ghost use Rattle.sw_scene.specs.Running.{AreHandled};
-ghost use Rattle.sw_ring.specs.Ring.{is_among};
-ghost use Rattle.sw_nodes.specs.Nodes.{devices_of};
+ghost use Rattle.sw_nodes.specs.Nodes.{Calls, lost_in};
 
 use crate::nodes::Nodes;
 use sw_message::{Operation, run};
@@ -15,7 +14,7 @@ use sw_types::NoMemory;
 pub fn run_alone<P: Operation>(op: &mut P, nodes: &mut Nodes<'_>) -> Result<(), NoMemory>
     requires begun { (begun : P.Begun) × P.stands op.old begun [] × (P.cluster begun ≡ nodes.old.cluster) }
     ensures runs { (begun : P.Begun) → P.stands op.old begun [] → P.cluster begun ≡ nodes.old.cluster → OnOk result ((past : List Step)
-        × P.stands op.new begun past × P.machine begun past Over × AreHandled nodes.old.cluster (is_among nodes.old.down) (devices_of nodes.old.nodes) past (devices_of nodes.new.nodes)) }
+        × P.stands op.new begun past × P.machine begun past Over × AreCalls Calls lost_in nodes.old past nodes.new) }
     ensures ended { OnOk result (P.has_ended op.new ≡ true) }
     ensures goes_on { OnOk result (nodes.new.is_wanting ≡ false) }
     ensures cluster { nodes.new.cluster ≡ nodes.old.cluster }

@@ -1,10 +1,6 @@
 pub mod Cuts
-pub mod Going
-pub mod Progress
-pub mod Sounding
-pub mod ShownLines
-pub mod ShownNames
-pub mod Ran
-pub mod Stepping
+pub mod Founds
 pub mod Lining
-pub mod Filing
+pub mod Overs
+pub mod Progress
+pub mod Stopped

@@ -1,39 +1,51 @@
 -- The event of a line, done or not.
-use Rattle.std.proofs.Common.{◌≡◌, List, [], ◌∷◌, ◌++◌, None, Some, Result, Ok, Err, ℕ, ap, refl, sym, ◌∙◌, append-nil}
+use Rattle.std.proofs.Common.{◌≡◌, inr, List, Some, Result, Ok, Err, ℕ, refl, subst, sym, ◌∙◌}
 use Rattle.std.specs.Prelude.{IfErr, OnOk, ⊤}
-use Rattle.sw_ring.specs.Cluster.{ClusterModel}
 use Rattle.sw_script.specs.Line.{event_of}
 use Rattle.sw_script.specs.declared.event.Event.{Event}
-use Rattle.sw_told.specs.Text.{told_text}
-use Rattle.sw_play.specs.Lines.{DoesLine, StopsEvent, StopsLine, TellsEvent}
-use Rattle.sw_play.specs.Script.{accepted, line_event, unless_faulty}
-use Rattle.sw_play.specs.Standing.{WorldModel}
-use Rattle.sw_play.specs.World.{World, event_fault}
+use Rattle.sw_world.specs.Leading.{FaultsBy}
+use Rattle.sw_play.specs.Lines.{DoesLine, StopsEvent, StopsLine, TellsEvent, stop_of}
+use Rattle.sw_world.specs.Scripted.{Scripted}
+use Rattle.sw_world.specs.Standing.{WorldModel}
+use Rattle.sw_world.specs.declared.fault.StepFault.{StepFault}
+use Rattle.sw_world.specs.declared.fault.StepFault.TheVariants as step
 use Rattle.sw_play.specs.declared.playing.LineStop.{LineStop}
 use Rattle.sw_play.specs.declared.playing.LineStop.TheVariants.{Fault, Spent, NoMemory}
 
--- a line tells an event that scripts of the cluster have
-pub tells_event : (cluster : ClusterModel) (line : List ℕ) (event : Event) → event_of line ≡ Ok (Some event) → event_fault cluster event ≡ None → line_event cluster line ≡ Ok (Some event)
-tells_event cluster line event read known = ap (accepted cluster) read ∙ ap (unless_faulty event) known
+-- ---- an event that a world does not do
 
-module _ (line : List ℕ) (event : Event) (old new : WorldModel) (read : event_of line ≡ Ok (Some event)) (known : event_fault old.cluster event ≡ None) where
+module _ (before : Scripted) (event : Event) (old new : WorldModel) where
+  stops_by : (fault : StepFault) → FaultsBy event before fault old new → StopsEvent before event (stop_of fault) old new
+  stops_by step.NoSuchMessage faults = faults
+  stops_by step.NoSuchDevice faults = faults
+  stops_by step.NoSuchOperation faults = faults
+  stops_by step.StampsSpent faults = faults
+  stops_by step.NoMemory faults = tt
+
+  pub stops_event : (fault : StepFault) (stop : LineStop) → stop ≡ stop_of fault → FaultsBy event before fault old new → StopsEvent before event stop old new
+  stops_event fault stop is faults = subst (λ (one : LineStop). StopsEvent before event one old new) (sym is) (stops_by fault faults)
+
+stop_wants : (fault : StepFault) → stop_of fault ≡ NoMemory → fault ≡ step.NoMemory
+stop_wants step.NoSuchMessage wants = absurd (cc)
+stop_wants step.NoSuchDevice wants = absurd (cc)
+stop_wants step.NoSuchOperation wants = absurd (cc)
+stop_wants step.StampsSpent wants = absurd (cc)
+stop_wants step.NoMemory wants = refl
+
+pub wants_memory : (fault : StepFault) (stop : LineStop) → stop ≡ stop_of fault → stop ≡ NoMemory → fault ≡ step.NoMemory
+wants_memory fault stop is wants = stop_wants fault (sym is ∙ wants)
+
+-- ---- the line of an event
+
+module _ (before : Scripted) (line : List ℕ) (event : Event) (read : event_of line ≡ Ok (Some event)) (old new : WorldModel) where
   -- what its event does
-  pub event_line : (before : World) (text more : List ℕ) (result : Result ⊤ LineStop) → OnOk result (TellsEvent old.cluster before event new text more) → OnOk result (DoesLine old.cluster before line new text more)
-  event_line before text more (Ok done) does = record {
-    event = Some event;
-    tells = tells_event old.cluster line event read known;
-    story = record { event = event; past = does.past; told = does.told } ∷ [];
-    after = does.after;
-    done = (does.after, does.does, refl);
-    events = refl;
-    text = does.text ∙ ap (λ more. text ++ more) (sym (append-nil (told_text does.told)));
-    stands = does.stands;
-  }
-  event_line before text more (Err stop) does = tt
+  pub event_line : (text more : List ℕ) (result : Result ⊤ LineStop) → OnOk result (TellsEvent before event new text more) → OnOk result (DoesLine before line new text more)
+  event_line text more (Ok done) does = (Some event, read, does)
+  event_line text more (Err stop) does = tt
 
   -- or why it stops
-  pub event_stop : (result : Result ⊤ LineStop) → IfErr result (λ stop. StopsEvent event stop old new) → IfErr result (λ stop. StopsLine line stop old new)
+  pub event_stop : (result : Result ⊤ LineStop) → IfErr result (λ stop. StopsEvent before event stop old new) → IfErr result (λ stop. StopsLine before line stop old new)
   event_stop (Ok done) stops = tt
-  event_stop (Err (Fault given)) stops = absurd stops
-  event_stop (Err Spent) stops = (event, tells_event old.cluster line event read known, stops)
-  event_stop (Err NoMemory) stops = stops
+  event_stop (Err (Fault fault)) stops = inr (event, read, stops)
+  event_stop (Err Spent) stops = (event, read, stops)
+  event_stop (Err NoMemory) stops = tt

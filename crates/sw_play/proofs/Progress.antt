@@ -1,111 +1,132 @@
 -- A script of which some first lines were done.
-use Rattle.std.proofs.Common.{◌≡◌, ◌≢◌, ℕ, ◌+◌, ◌<◌, true, List, [], ◌∷◌, ◌++◌, length, take, Option, None, Some, Result, Ok, Err, refl, sym, ap, subst, ◌∙◌, append_assoc, append-nil}
-use Rattle.std.specs.Prelude.{option_to_list}
-use Rattle.std.specs.List.{slice_get}
-use Rattle.std.proofs.lemmas.List.{map-append, take_at}
-use Rattle.sw_types.specs.Stamp.{greatest_stamp}
-use Rattle.sw_ring.specs.Cluster.{ClusterModel}
+use Rattle.std.proofs.Common.{◌≡◌, ◌≢◌, inl, inr, ⊎_elim, ℕ, ◌+◌, true, Contains, List, [], ◌∷◌, ◌++◌, map, Option, None, Some, Result, Ok, refl, sym, ap, subst, ◌∙◌, append_assoc, append-nil}
+use Rattle.std.specs.List.{concat}
+use Rattle.std.proofs.lemmas.List.{map-append}
+use Rattle.std.proofs.lemmas.List.Elements.{Contains-push_cases}
+use Rattle.std.proofs.lemmas.List.Folds.{concat-append}
+use Rattle.sw_diskfile.proofs.Lists.{Contains-none}
+use Rattle.sw_script.specs.Line.{event_of}
 use Rattle.sw_script.specs.declared.event.Event.{Event}
 use Rattle.sw_script.specs.declared.fault.LineFault.{LineFault}
-use Rattle.sw_play.specs.Lines.{DoesLine}
-use Rattle.sw_play.specs.Play.{EndsBy, Played, events_of}
-use Rattle.sw_play.specs.Script.{Fault, Lined, events_from, fault_before, fault_from, line_event, lined_before}
-use Rattle.sw_play.specs.Standing.{StandsFor, WorldModel}
-use Rattle.sw_play.specs.Story.{AreDone, Done, events_in, story_text}
-use Rattle.sw_play.specs.World.{IsSound, World, is_drawing, next_stamp}
+use Rattle.sw_told.specs.Text.{told_text}
+use Rattle.sw_play.specs.Lines.{DoesLine, DoesOrBlank, StopsLine}
+use Rattle.sw_play.specs.Play.{Played}
+use Rattle.sw_world.specs.Scripted.{Scripted}
+use Rattle.sw_world.specs.Standing.{StandsFor, WorldModel}
+use Rattle.sw_world.specs.Doing.{Done}
+use Rattle.sw_play.specs.Story.{Plays, PlaysEvent, PlaysLine, TellsOnePut, story_text}
+use Rattle.sw_play.specs.declared.playing.LineStop.TheVariants as stop
 use Rattle.sw_play.specs.declared.playing.PlayEnd.{PlayEnd}
 use Rattle.sw_play.specs.declared.playing.PlayEnd.TheVariants as ended
-use Rattle.sw_play.proofs.Going.{done_more, events_more, text_more}
-use Rattle.sw_play.proofs.Sounding.{all_tell}
+use Rattle.sw_play.proofs.Founds.{tells_one_put}
 
 -- these lines were done, and those are left, the first of which has the next number
-pub record Progress (cluster : ClusterModel) (before : World) (left : WorldModel) (old new : List ℕ) (number : ℕ) (lines all : List (List ℕ)) : Type 0 where
+pub record Progress (before : Scripted) (left : WorldModel) (old new : List ℕ) (number : ℕ) (lines all : List (List ℕ)) : Type 0 where
   pub story : List Done
-  pub after : World
-  pub done : AreDone cluster before story after
+  pub after : Scripted
+  -- however it goes on from there, the whole goes on
+  pub plays : (later : List Done) (end : PlayEnd) (last : Scripted) → Plays after (number + 1) lines later end last → Plays before 1 all (story ++ later) end last
   pub text : new ≡ old ++ story_text story
   pub stands : StandsFor left after
-  pub lined : List Lined
-  pub events : events_in story ≡ events_of lined
-  pub rest : events_from cluster 1 all ≡ lined ++ events_from cluster (number + 1) lines
-  pub fault : fault_from cluster 1 all ≡ fault_from cluster (number + 1) lines
+  pub found : (done : Done) → Contains story done → TellsOnePut done
 
 -- nothing was done
-pub none_done : (cluster : ClusterModel) (before : World) (left : WorldModel) (text : List ℕ) (all : List (List ℕ)) → StandsFor left before → Progress cluster before left text text 0 all all
-none_done cluster before left text all stands = record {
+pub none_done : (before : Scripted) (left : WorldModel) (text : List ℕ) (all : List (List ℕ)) → StandsFor left before → Progress before left text text 0 all all
+none_done before left text all stands = record {
   story = [];
   after = before;
-  done = refl;
+  plays = λ later end last plays. plays;
   text = sym (append-nil text);
   stands = stands;
-  lined = [];
-  events = refl;
-  rest = refl;
-  fault = refl;
+  found = λ done has. absurd (Contains-none done has);
 }
 
--- what the event of a line adds to those of a script
-numbered : ℕ → Option Event → List Lined
-numbered number None = []
-numbered number (Some event) = record { line = number; event = event } ∷ []
+-- ---- one line more
 
-numbered_events : (number : ℕ) (event : Option Event) → events_of (numbered number event) ≡ option_to_list event
-unfolding numbered
-numbered_events number None = refl
-numbered_events number (Some event) = refl
+text_more : (story : List Done) (done : Done) → story_text (story ++ done ∷ []) ≡ story_text story ++ told_text done.told
+text_more story done =
+    ap concat (map-append (λ (one : Done). told_text one.told) story (done ∷ [])) ∙ concat-append (map (λ (one : Done). told_text one.told) story) (told_text done.told ∷ [])
+    ∙ ap (λ text. story_text story ++ text) (append-nil (told_text done.told))
 
-lined_is : (read : Result (Option Event) LineFault) (event : Option Event) (number : ℕ) (later : List Lined) → read ≡ Ok event → lined_before read number later ≡ numbered number event ++ later
-unfolding numbered
-lined_is read None number later is = ap (λ (r : Result (Option Event) LineFault). lined_before r number later) is
-lined_is read (Some event) number later is = ap (λ (r : Result (Option Event) LineFault). lined_before r number later) is
+module _ (before : Scripted) (middle left : WorldModel) (old between new : List ℕ) (number : ℕ) (line : List ℕ) (lines all : List (List ℕ)) (progress : Progress before middle old between number (line ∷ lines) all) where
+  -- how the rest goes on
+  abbrev Rest : Scripted → List Done → PlayEnd → Scripted → Type 0
+  Rest at later how last = Plays at (number + 1 + 1) lines later how last
 
-fault_is : (read : Result (Option Event) LineFault) (event : Option Event) (number : ℕ) (later : Option Fault) → read ≡ Ok event → fault_before read number later ≡ later
-fault_is read event number later is = ap (λ (r : Result (Option Event) LineFault). fault_before r number later) is
+  abbrev GoesOn : Result (Option Event) LineFault → List Done → PlayEnd → Scripted → Type 0
+  GoesOn told later end last = PlaysLine told (number + 1) Rest progress.after later end last
 
--- one line more was done
-pub line_done : (cluster : ClusterModel) (before : World) (middle left : WorldModel) (old between new : List ℕ) (number : ℕ) (line : List ℕ) (lines all : List (List ℕ))
-    → (progress : Progress cluster before middle old between number (line ∷ lines) all) → DoesLine cluster progress.after line left between new → Progress cluster before left old new (number + 1) lines all
-line_done cluster before middle left old between new number line lines all progress does =
-    let later = events_from cluster (number + 1 + 1) lines in
-    let mine = numbered (number + 1) does.event in
-    record {
-      story = progress.story ++ does.story;
-      after = does.after;
-      done = done_more cluster progress.story does.story before progress.after does.after progress.done does.done;
-      text =
-          does.text ∙ ap (λ t. t ++ story_text does.story) progress.text ∙ append_assoc old (story_text progress.story) (story_text does.story)
-          ∙ ap (λ t. old ++ t) (sym (text_more progress.story does.story));
-      stands = does.stands;
-      lined = progress.lined ++ mine;
-      events =
-          events_more progress.story does.story ∙ ap (λ es. es ++ events_in does.story) progress.events
-          ∙ ap (λ es. events_of progress.lined ++ es) (does.events ∙ sym (numbered_events (number + 1) does.event))
-          ∙ sym (map-append (λ (one : Lined). one.event) progress.lined mine);
-      rest = progress.rest ∙ ap (λ es. progress.lined ++ es) (lined_is (line_event cluster line) does.event (number + 1) later does.tells) ∙ sym (append_assoc progress.lined mine later);
-      fault = progress.fault ∙ fault_is (line_event cluster line) does.event (number + 1) (fault_from cluster (number + 1 + 1) lines) does.tells;
-    }
+  event_done : (event : Option Event) → event_of line ≡ Ok event → DoesOrBlank event progress.after left between new → Progress before left old new (number + 1) lines all
+  event_done None is (stands, same) = record {
+    story = progress.story;
+    after = progress.after;
+    plays = λ later end last plays. progress.plays later end last (inr (subst (λ (told : Result (Option Event) LineFault). GoesOn told later end last) (sym is) plays));
+    text = same ∙ progress.text;
+    stands = stands;
+    found = progress.found;
+  }
+  event_done (Some event) is tells =
+      let done : Done = record { event = event; steps = tells.does.steps; told = tells.told; after = tells.does.after } in
+      record {
+        story = progress.story ++ done ∷ [];
+        after = done.after;
+        plays = λ later end last plays.
+            subst (λ (story : List Done). Plays before 1 all story end last) (sym (append_assoc progress.story (done ∷ []) later))
+            (progress.plays (done ∷ later) end last
+            (inr
+            (subst (λ (told : Result (Option Event) LineFault). GoesOn told (done ∷ later) end last) (sym is)
+            (subst (λ (fault : Option LineFault). PlaysEvent fault event (number + 1) Rest progress.after (done ∷ later) end last) (sym tells.does.fine) (tells.does.spare, refl, tells.does.does, plays)))));
+        text = tells.text ∙ ap (λ text. text ++ told_text tells.told) progress.text ∙ append_assoc old (story_text progress.story) (told_text tells.told) ∙ ap (λ text. old ++ text) (sym (text_more progress.story done));
+        stands = tells.does.stands;
+        found = λ one has. ⊎_elim
+            (λ earlier. progress.found one earlier)
+            (λ this. subst TellsOnePut this (tells_one_put left.cluster tells.does.stands.events progress.after done tells.does.does tells.does.stands.run))
+            (Contains-push_cases progress.story done one has);
+      }
+
+  pub line_done : DoesLine progress.after line left between new → Progress before left old new (number + 1) lines all
+  line_done (event, is, does) = event_done event is does
 
 -- ---- how it ends
 
-module _ (cluster : ClusterModel) (before : World) (start middle : WorldModel) (old new : List ℕ) (number : ℕ) (lines all : List (List ℕ)) (stood : StandsFor start before) (same : start.cluster ≡ cluster)
-    (progress : Progress cluster before middle old new number lines all) where
-  all_done : events_from cluster (number + 1) lines ≡ [] → events_in progress.story ≡ events_of (events_from cluster 1 all)
-  all_done none = progress.events ∙ ap events_of (sym (append-nil progress.lined) ∙ ap (λ (es : List Lined). progress.lined ++ es) (sym none) ∙ sym progress.rest)
+none_plays : (at : Scripted) (number : ℕ) (lines : List (List ℕ)) → Plays at number lines [] ended.NoMemory at
+none_plays at number [] = inl (refl, refl, refl)
+none_plays at number (line ∷ lines) = inl (refl, refl, refl)
 
-  some_done : events_in progress.story ≡ events_of (take (length progress.lined) (events_from cluster 1 all))
-  some_done = progress.events ∙ ap events_of (sym (ap (take (length progress.lined)) progress.rest ∙ take_at progress.lined (events_from cluster (number + 1) lines) (length progress.lined) refl))
+module _ (at : Scripted) (number : ℕ) (line : List ℕ) (lines : List (List ℕ)) (old new : WorldModel) where
+  abbrev After : Scripted → List Done → PlayEnd → Scripted → Type 0
+  After between later how last = Plays between (number + 1) lines later how last
 
-  played : (end : PlayEnd) (left : WorldModel) → EndsBy cluster all (events_in progress.story) progress.after end → (end ≢ ended.NoMemory → left ≡ middle) → (end ≡ ended.NoMemory → left.is_wanting ≡ true)
-      → Played cluster before all end left old new
-  played end left ends kept wants = record {
+  fault_plays : (fault : LineFault) → StopsLine at line (stop.Fault fault) old new → Plays at number (line ∷ lines) [] (ended.Line number fault) at × (new ≡ old)
+  fault_plays fault stops = ⊎_elim
+      (λ unread. (inr (subst (λ (told : Result (Option Event) LineFault). PlaysLine told number After at [] (ended.Line number fault) at) (sym unread.0) (refl, refl, refl)), unread.1))
+      (λ (event, is, faults). (
+        inr
+            (subst (λ (told : Result (Option Event) LineFault). PlaysLine told number After at [] (ended.Line number fault) at) (sym is)
+            (subst (λ (found : Option LineFault). PlaysEvent found event number After at [] (ended.Line number fault) at) (sym faults.0) (refl, refl, refl))),
+        faults.1,
+      ))
+      stops
+
+  spent_plays : StopsLine at line stop.Spent old new → Plays at number (line ∷ lines) [] (ended.Spent number) at × (new ≡ old)
+  spent_plays (event, is, spends) = (
+    inr
+        (subst (λ (told : Result (Option Event) LineFault). PlaysLine told number After at [] (ended.Spent number) at) (sym is)
+        (subst (λ (found : Option LineFault). PlaysEvent found event number After at [] (ended.Spent number) at) (sym spends.0) (spends.1, refl, refl))),
+    spends.2,
+  )
+
+module _ (before : Scripted) (middle : WorldModel) (old new : List ℕ) (number : ℕ) (lines all : List (List ℕ)) (progress : Progress before middle old new number lines all) where
+  played : (end : PlayEnd) (left : WorldModel) → Plays progress.after (number + 1) lines [] end progress.after → (end ≢ ended.NoMemory → left ≡ middle) → (end ≡ ended.NoMemory → left.is_wanting ≡ true)
+      → Played before all end left old new
+  played end left plays kept wants = record {
     told = story_text progress.story;
     run = record {
       story = progress.story;
       after = progress.after;
-      done = progress.done;
-      ends = ends;
+      plays = subst (λ (story : List Done). Plays before 1 all story end progress.after) (append-nil progress.story) (progress.plays [] end progress.after plays);
       text_is = refl;
-      found = all_tell cluster progress.story before progress.after progress.done (subst (λ (c : ClusterModel). IsSound c before) same stood.sound);
+      found = progress.found;
     };
     text = progress.text;
     stands = λ goes. subst (λ (world : WorldModel). StandsFor world progress.after) (sym (kept goes)) progress.stands;
@@ -113,40 +134,24 @@ module _ (cluster : ClusterModel) (before : World) (start middle : WorldModel) (
   }
 
   -- no line is left
-  pub played_done : lines ≡ [] → Played cluster before all ended.Done middle old new
+  pub played_done : lines ≡ [] → Played before all ended.Done middle old new
   played_done none =
-      let rest = ap (events_from cluster (number + 1)) none in
-      played ended.Done middle (all_done rest, progress.fault ∙ ap (fault_from cluster (number + 1)) none) (λ goes. refl) (λ is. absurd (cc))
+      played ended.Done middle (subst (λ (rest : List (List ℕ)). Plays progress.after (number + 1) rest [] ended.Done progress.after) (sym none) (inr (refl, refl, refl))) (λ goes. refl) (λ is. absurd (cc))
 
   -- memory was wanted
-  pub played_part : (left : WorldModel) → left.is_wanting ≡ true → Played cluster before all ended.NoMemory left old new
-  played_part left wants = played ended.NoMemory left (length progress.lined, some_done) (λ goes. absurd (goes refl)) (λ is. wants)
+  pub played_part : (left : WorldModel) → left.is_wanting ≡ true → Played before all ended.NoMemory left old new
+  played_part left wants = played ended.NoMemory left (none_plays progress.after (number + 1) lines) (λ goes. absurd (goes refl)) (λ is. wants)
 
-  module _ (line : List ℕ) (later : List (List ℕ)) (first : lines ≡ line ∷ later) where
+  module _ (line : List ℕ) (later : List (List ℕ)) (first : lines ≡ line ∷ later) (left : WorldModel) where
     -- the next line is faulty
-    pub played_line : (fault : LineFault) → line_event cluster line ≡ Err fault → (left : WorldModel) → left ≡ middle → Played cluster before all (ended.Line (number + 1) fault) left old new
-    played_line fault is left kept =
-        let read = λ (r : Result (Option Event) LineFault). lined_before r (number + 1) (events_from cluster (number + 1 + 1) later) in
-        let told = λ (r : Result (Option Event) LineFault). fault_before r (number + 1) (fault_from cluster (number + 1 + 1) later) in
+    pub played_line : (fault : LineFault) → StopsLine progress.after line (stop.Fault fault) middle left → Played before all (ended.Line (number + 1) fault) left old new
+    played_line fault stops =
+        let (plays, kept) = fault_plays progress.after (number + 1) line later middle left fault stops in
         played (ended.Line (number + 1) fault) left
-        (all_done (ap (events_from cluster (number + 1)) first ∙ ap read is), progress.fault ∙ ap (fault_from cluster (number + 1)) first ∙ ap told is) (λ goes. kept) (λ it. absurd (cc))
+        (subst (λ (rest : List (List ℕ)). Plays progress.after (number + 1) rest [] (ended.Line (number + 1) fault) progress.after) (sym first) plays) (λ goes. kept) (λ it. absurd (cc))
 
     -- it was to draw a stamp
-    pub played_spent : (event : Event) → line_event cluster line ≡ Ok (Some event) → is_drawing event ≡ true → greatest_stamp < next_stamp middle.last → (left : WorldModel) → left ≡ middle
-        → Played cluster before all (ended.Spent (number + 1)) left old new
-    played_spent event is draws spent left kept =
-        let read = λ (r : Result (Option Event) LineFault). lined_before r (number + 1) (events_from cluster (number + 1 + 1) later) in
-        let here : events_from cluster 1 all ≡ progress.lined ++ (record { line = number + 1; event = event } ∷ events_from cluster (number + 1 + 1) later) =
-        progress.rest ∙ ap (λ (es : List Lined). progress.lined ++ es) (ap (events_from cluster (number + 1)) first ∙ ap read is) in
-        played (ended.Spent (number + 1)) left (record {
-          count = length progress.lined;
-          done = some_done;
-          drawing = event;
-          draws = draws;
-          next = ap (λ (es : List Lined). slice_get es (length progress.lined)) here ∙ next_after progress.lined (record { line = number + 1; event = event }) (events_from cluster (number + 1 + 1) later);
-          spent = subst (λ (last : Option ℕ). greatest_stamp < next_stamp last) (sym progress.stands.last) spent;
-        }) (λ goes. kept) (λ it. absurd (cc))
-      where
-        next_after : (xs : List Lined) (x : Lined) (ys : List Lined) → slice_get (xs ++ x ∷ ys) (length xs) ≡ Some x
-        next_after [] x ys = refl
-        next_after (y ∷ xs) x ys = next_after xs x ys
+    pub played_spent : StopsLine progress.after line stop.Spent middle left → Played before all (ended.Spent (number + 1)) left old new
+    played_spent stops =
+        let (plays, kept) = spent_plays progress.after (number + 1) line later middle left stops in
+        played (ended.Spent (number + 1)) left (subst (λ (rest : List (List ℕ)). Plays progress.after (number + 1) rest [] (ended.Spent (number + 1)) progress.after) (sym first) plays) (λ goes. kept) (λ it. absurd (cc))

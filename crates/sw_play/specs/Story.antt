@@ -1,42 +1,60 @@
--- The story of a run: the events that were done, each with the steps of its operation and what was told of it.
-use Rattle.std.specs.Prelude.{◌≡◌, ◌⊎◌, ℕ, List, [], ◌∷◌, Contains, map, ⊤}
+-- The story of a script: its lines, the basic events of each, the worlds that they led to, and what was told.
+use Rattle.std.specs.Prelude.{◌≡◌, ◌⊎◌, ℕ, ◌+◌, List, [], ◌∷◌, Contains, map, Option, Some, None, Result, Ok, Err, ⊤}
 use Rattle.std.specs.List.{concat}
-use Rattle.sw_types.specs.Name.{NameModel}
 use Rattle.sw_types.specs.Object.{ObjectModel}
-use Rattle.sw_ring.specs.Cluster.{ClusterModel}
-use Rattle.sw_message.specs.Transcript.{Step}
 use Rattle.sw_message.specs.declared.target.Target.{Target}
 use Rattle.sw_get.specs.Causes.{IsPutFound}
+use Rattle.sw_get.specs.Get as gets
 use Rattle.sw_get.specs.declared.end.GetEnd.{GetEnd}
 use Rattle.sw_get.specs.declared.end.GetEnd.TheVariants.{Found}
-use Rattle.sw_scene.specs.Running.{learnt_of}
+use Rattle.sw_scene.specs.Scene.{known_to}
+use Rattle.sw_core.specs.Operating.{IsGetOf}
+use Rattle.sw_core.specs.World.{Operating, numbered}
+use Rattle.sw_script.specs.Line.{event_of}
 use Rattle.sw_script.specs.declared.event.Event.{Event}
-use Rattle.sw_script.specs.declared.event.Event.TheVariants as event
-use Rattle.sw_script.specs.declared.event.Job.TheVariants as job
+use Rattle.sw_script.specs.declared.fault.LineFault.{LineFault}
 use Rattle.sw_told.specs.Text.{told_text}
 use Rattle.sw_told.specs.declared.end.EndLine.{EndLine}
 use Rattle.sw_told.specs.declared.end.OpEnd.{OpEnd}
 use Rattle.sw_told.specs.declared.end.OpEnd.TheVariants.{Get, Head}
-use Rattle.sw_told.specs.declared.told.Told.{Told}
-use Rattle.sw_play.specs.World.{DoesEvent, World, get_of}
+use Rattle.sw_world.specs.Doing.{DoesEvent, Done, IsSpent, event_fault}
+use Rattle.sw_world.specs.Scripted.{Scripted}
+use Rattle.sw_play.specs.declared.playing.PlayEnd.{PlayEnd}
+use Rattle.sw_play.specs.declared.playing.PlayEnd.TheVariants as ended
 
-pub record Done : Type 0 where
-  pub event : Event
-  -- of its operation, the latest step first; of none where it runs none
-  pub past : List Step
-  pub told : Told
-
--- these events were done, one after the other
-abbrev pub AreDone : ClusterModel → World → List Done → World → Type 0
-AreDone cluster before [] after = after ≡ before
-AreDone cluster before (done ∷ story) after = (between : World) × DoesEvent cluster before done.event done.past done.told between × AreDone cluster between story after
-
--- all that is printed of them
+-- all that is printed
 abbrev pub story_text : List Done → List ℕ
 story_text story = concat (map (λ (done : Done). told_text done.told) story)
 
-abbrev pub events_in : List Done → List Event
-events_in story = map (λ (done : Done). done.event) story
+-- ---- lines
+
+-- nothing more is done
+abbrev pub Stops : PlayEnd → (before : Scripted) → List Done → PlayEnd → (after : Scripted) → Type 0
+Stops how before story end after = (story ≡ []) × (end ≡ how) × (after ≡ before)
+
+-- an event is done, and then the rest; or it was to draw a stamp after the last
+abbrev pub DoesOrSpends : Event → (number : ℕ) → (Rest : Scripted → List Done → PlayEnd → Scripted → Type 0) → (before : Scripted) → List Done → PlayEnd → (after : Scripted) → Type 0
+DoesOrSpends event number Rest before [] end after = IsSpent before event × (end ≡ ended.Spent number) × (after ≡ before)
+DoesOrSpends event number Rest before (done ∷ story) end after = (IsSpent before event → ⊥) × (done.event ≡ event) × DoesEvent before done × Rest done.after story end after
+
+-- unless its line has a fault
+abbrev pub PlaysEvent : Option LineFault → Event → (number : ℕ) → (Rest : Scripted → List Done → PlayEnd → Scripted → Type 0) → (before : Scripted) → List Done → PlayEnd → (after : Scripted) → Type 0
+PlaysEvent (Some fault) event number Rest before story end after = Stops (ended.Line number fault) before story end after
+PlaysEvent None event number Rest before story end after = DoesOrSpends event number Rest before story end after
+
+-- by what a line tells
+abbrev pub PlaysLine : Result (Option Event) LineFault → (number : ℕ) → (Rest : Scripted → List Done → PlayEnd → Scripted → Type 0) → (before : Scripted) → List Done → PlayEnd → (after : Scripted) → Type 0
+PlaysLine (Err fault) number Rest before story end after = Stops (ended.Line number fault) before story end after
+PlaysLine (Ok None) number Rest before story end after = Rest before story end after
+PlaysLine (Ok (Some event)) number Rest before story end after = PlaysEvent (event_fault before event) event number Rest before story end after
+
+-- How a script of these lines, the first of which has this number, goes on from a world, and how it ends. Memory may be wanted at any line,
+-- and behind the last.
+abbrev pub Plays : (before : Scripted) → (number : ℕ) → List (List ℕ) → List Done → PlayEnd → (after : Scripted) → Type 0
+Plays before number [] story end after = Stops ended.NoMemory before story end after ⊎ Stops ended.Done before story end after
+Plays before number (line ∷ lines) story end after =
+    Stops ended.NoMemory before story end after
+    ⊎ PlaysLine (event_of line) number (λ between later how last. Plays between (number + 1) lines later how last) before story end after
 
 -- ---- the first half of the headline
 
@@ -50,18 +68,10 @@ IfFoundEnd (Get end) P = IfFound end P
 IfFoundEnd (Head end) P = IfFound end P
 IfFoundEnd other P = ⊤
 
--- the event gets this name, or its head
-abbrev pub IsOfName : Event → NameModel → Type 0
-IsOfName told name = (told ≡ event.Run (job.Get name)) ⊎ (told ≡ event.Run (job.Head name))
-
--- Where the end of a get is told that found an object, the object was put under the get's name at that stamp: the put is one of the
--- world's. Its sources have k different indices and sent this get the archives of that put, and the stamp is a durable floor that an answer
--- to it showed, the greatest that was shown once every device had answered.
-abbrev pub TellsOnePut : ClusterModel → World → Done → Type 0
-TellsOnePut cluster world done = (line : EndLine) → Contains done.told.ends line → IfFoundEnd line.end (λ stamp object sources.
-    (name : NameModel) × IsOfName done.event name × IsPutFound (get_of cluster name) done.past (learnt_of world.book world.marks done.past) stamp object sources)
-
--- each event of a story does so, in the world in which it was done
-abbrev pub AllTellOnePut : (cluster : ClusterModel) (before : World) (story : List Done) (after : World) → AreDone cluster before story after → Type 0
-AllTellOnePut cluster before [] after all = ⊤
-AllTellOnePut cluster before (done ∷ story) after all = TellsOnePut cluster before done × AllTellOnePut cluster all.0 story after all.2
+-- Where the end of a get is told that found an object, the object was put under the get's name at that stamp, and the put was started
+-- before. Its sources have k different indices and sent this get the archives of that put, and the stamp is a durable floor that an
+-- answer to it showed.
+abbrev pub TellsOnePut : Done → Type 0
+TellsOnePut done = (line : EndLine) → Contains done.told.ends line → IfFoundEnd line.end (λ stamp object sources.
+    (operation : Operating) × (begun : gets.Begun) × (numbered done.after.world.operations line.operation ≡ Some operation) × IsGetOf operation.begun begun
+    × IsPutFound begun operation.past (known_to done.after.world.scene) stamp object sources)

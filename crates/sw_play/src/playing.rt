@@ -1,17 +1,16 @@
 //! A whole script over a world.
 
-ghost use Rattle.std.specs.Prelude.{◌≡◌, ◌≤◌, true, None, IfErr, OnErr, OnOk, length};
-ghost use Rattle.sw_play.specs.Lines.{DoesLine, StopsEvent, StopsLine, TellsEvent};
+ghost use Rattle.std.specs.Prelude.{◌≡◌, ◌≤◌, ◌⊎◌, true, IfErr, OnErr, OnOk, length};
+ghost use Rattle.sw_play.specs.Lines.{DoesLine, StopsEvent, StopsLine, TellsEvent, stop_of};
 ghost use Rattle.sw_play.specs.Play.{Played, greatest_script};
-ghost use Rattle.sw_play.specs.Standing.{StandsFor};
-ghost use Rattle.sw_play.specs.World.{World as AWorld, event_fault};
+ghost use Rattle.sw_world.specs.Scripted.{Scripted};
+ghost use Rattle.sw_world.specs.Standing.{StandsFor};
 ghost use Rattle.sw_script.specs.Line.{lines_of};
 
-use crate::fault::StepFault;
-use crate::world::World;
 use std::alloc::Global;
 use sw_script::{Event, LineFault, cut_at};
 use sw_types::{Bytes, NoMemory};
+use sw_world::{StepFault, World};
 
 /// The greatest number of bytes of a script.
 pub const GREATEST_SCRIPT: usize = 67_108_864;
@@ -30,12 +29,12 @@ pub enum PlayEnd {
 
 /// Does the events of a script's lines, up to the first faulty one, and adds to the text what is told of them.
 ///
-/// From a world that stands for one, there is a story of what was done: each operation ran by its machine, each of its messages was
-/// handled by the table of a node, and what is told is so. The text that was added is that of the story, and each found object in it is
-/// one put's. After want of memory the world answers so from then on.
+/// From a world that stands for one, there is a story of what was done: the basic events of each line, and the worlds that they led to.
+/// The text that was added is that of the story, and each found object in it is one put's. After want of memory the world answers so
+/// from then on.
 pub fn play(alloc: Global, input: &[u8], world: &mut World<'_>, text: &mut Bytes) -> PlayEnd
     requires { length input.now ≤ greatest_script }
-    ensures played { (before : AWorld) → StandsFor world.old before → Played world.old.cluster before (lines_of input.now) result world.new text.old text.new }
+    ensures played { (before : Scripted) → StandsFor world.old before → Played before (lines_of input.now) result world.new text.old text.new }
     ensures wanted { world.old.is_wanting ≡ true → (result ≡ PlayEnd.NoMemory) × (world.new.is_wanting ≡ true) × (text.new ≡ text.old) }
     ensures cluster { world.new.cluster ≡ world.old.cluster }
 {
@@ -70,6 +69,20 @@ enum LineStop {
     NoMemory,
 }
 
+impl From<StepFault> for LineStop {
+    ghost from_gives = { λ fault stop. stop ≡ stop_of fault };
+
+    fn from(fault: StepFault) -> LineStop {
+        match fault {
+            StepFault::NoSuchMessage => LineStop::Fault(LineFault::NoMessage),
+            StepFault::NoSuchDevice => LineStop::Fault(LineFault::NoDevice),
+            StepFault::NoSuchOperation => LineStop::Fault(LineFault::NoOperation),
+            StepFault::StampsSpent => LineStop::Spent,
+            StepFault::NoMemory => LineStop::NoMemory,
+        }
+    }
+}
+
 // Does the event of a line, if it tells one, and adds what is told of it to the text.
 fn do_line(
     alloc: Global,
@@ -77,16 +90,14 @@ fn do_line(
     world: &mut World<'_>,
     text: &mut Bytes,
 ) -> Result<(), LineStop>
-    ensures ok { (before : AWorld) → StandsFor world.old before → OnOk result (DoesLine world.old.cluster before line.now world.new text.old text.new) }
-    ensures stops { IfErr result (λ stop. StopsLine line.now stop world.old world.new) }
+    ensures ok { (before : Scripted) → StandsFor world.old before → OnOk result (DoesLine before line.now world.new text.old text.new) }
+    ensures stops { (before : Scripted) → StandsFor world.old before → IfErr result (λ stop. StopsLine before line.now stop world.old world.new) }
+    ensures wants { IfErr result (λ stop. stop ≡ LineStop.NoMemory → world.new.is_wanting ≡ true) }
     ensures text { OnErr result (text.new ≡ text.old) }
     ensures cluster { world.new.cluster ≡ world.old.cluster }
 {
     match Event::read(alloc, line) {
-        Ok(Some(event)) => match world.fault_of(&event) {
-            Some(fault) => Err(LineStop::Fault(fault)),
-            None => do_event(alloc, &event, world, text),
-        },
+        Ok(Some(event)) => do_event(alloc, &event, world, text),
         Ok(None) => Ok(()),
         Err(LineFault::NoMemory) => {
             world.give_up();
@@ -103,21 +114,18 @@ fn do_event(
     world: &mut World<'_>,
     text: &mut Bytes,
 ) -> Result<(), LineStop>
-    requires { event_fault world.old.cluster event.now ≡ None }
-    ensures ok { (before : AWorld) → StandsFor world.old before → OnOk result (TellsEvent world.old.cluster before event.now world.new text.old text.new) }
-    ensures stops { IfErr result (λ stop. StopsEvent event.now stop world.old world.new) }
+    ensures ok { (before : Scripted) → StandsFor world.old before → OnOk result (TellsEvent before event.now world.new text.old text.new) }
+    ensures stops { (before : Scripted) → StandsFor world.old before → IfErr result (λ stop. StopsEvent before event.now stop world.old world.new) }
+    ensures wants { IfErr result (λ stop. stop ≡ LineStop.NoMemory → world.new.is_wanting ≡ true) }
     ensures text { OnErr result (text.new ≡ text.old) }
     ensures cluster { world.new.cluster ≡ world.old.cluster }
 {
-    match world.step(event) {
-        Ok(told) => match told.print(alloc, text) {
-            Ok(()) => Ok(()),
-            Err(NoMemory) => {
-                world.give_up();
-                Err(LineStop::NoMemory)
-            }
-        },
-        Err(StepFault::StampsSpent) => Err(LineStop::Spent),
-        Err(StepFault::NoMemory) => Err(LineStop::NoMemory),
+    let told = world.step(event)?;
+    match told.print(alloc, text) {
+        Ok(()) => Ok(()),
+        Err(NoMemory) => {
+            world.give_up();
+            Err(LineStop::NoMemory)
+        }
     }
 }

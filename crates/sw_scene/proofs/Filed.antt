@@ -80,6 +80,3 @@ module _ (cluster : ClusterModel) (learnt : Learnt) (device : ℕ) (msg : Msg) (
 
   pub genuine : IsHandledBy cluster device msg reply before after → IsGenuine cluster learnt reply
   genuine is = (handled is).1
-
-pub same_filed : (cluster : ClusterModel) (book : List Booked) (before after : Devices) → AreSame before after → AreFiled cluster book before → AreFiled cluster book after
-same_filed cluster book before after same were = λ device place right. subst (All (IsFiled cluster book place)) (sym (same device (folder_of place))) (were device place right)

@@ -1,4 +1,3 @@
-pub mod Alone
 pub mod Changed
 pub mod DeviceMoves
 pub mod Filed

@@ -2,6 +2,5 @@ pub mod Devices
 pub mod Disks
 pub mod Filed
 pub mod Moves
-pub mod Running
 pub mod Scene
 pub mod Sound

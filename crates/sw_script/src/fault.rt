@@ -8,7 +8,7 @@ use std::alloc::AllocError;
 use sw_types::NoMemory;
 use thiserror::Error;
 
-/// The first fault of a line, in the order in which they are tried. That of a device is found where there is a ring.
+/// The first fault of a line, in the order in which they are tried. Those of messages, devices and operations are found in a world.
 #[derive(Clone, Copy, Debug, PartialEq, Eq, Error)]
 pub enum LineFault {
     /// It has more than 65,536 bytes.
@@ -26,9 +26,15 @@ pub enum LineFault {
     /// A body is no hex text.
     #[error("not hex")]
     BadHex,
+    /// No message has a number; for a crash, no request.
+    #[error("no such message")]
+    NoMessage,
     /// The ring has no device of a number.
     #[error("no such device")]
     NoDevice,
+    /// No operation has a number.
+    #[error("no such operation")]
+    NoOperation,
     #[error("out of memory")]
     NoMemory,
 }
@@ -44,7 +50,9 @@ impl LineFault {
             LineFault::BadHex => 3,
             LineFault::BadName => 4,
             LineFault::TooLong => 5,
+            LineFault::NoMessage => 6,
             LineFault::NoDevice => 7,
+            LineFault::NoOperation => 8,
             LineFault::NoMemory => 0,
         }
     }

@@ -1,18 +1,15 @@
 -- Answers that keep to what the words and the input give.
 use Rattle.std.proofs.Common.{◌≡◌, ℕ, suc, ◌≤◌, ◌==◌, ◌&&◌, Bool, true, false, nat_lt, if◌then◌else◌, List, [], ◌∷◌, ◌++◌, length, inl, inr, refl, sym, ◌∙◌, ap, subst, arith, Ok, Err}
-use Rattle.std.proofs.Math.Seq.{take-length}
 use Rattle.std.proofs.lemmas.Bool.Decides.{nat_tests}
 use Rattle.sw_words.specs.Memory.{UnlessMemory}
 use Rattle.sw_ring.specs.Cluster.{ClusterModel, IsCluster, KeepsRules, ring_of}
 use Rattle.sw_ring.specs.Members.{RingMembers}
 use Rattle.sw_ring.specs.declared.fault.RingFault.{RingFault}
 use Rattle.sw_script.specs.Line.{lines_of}
-use Rattle.sw_script.specs.declared.event.Event.{Event}
-use Rattle.sw_play.specs.Play.{EndsBy, IsRun, Played, events_of}
-use Rattle.sw_play.specs.Script.{events_from}
-use Rattle.sw_play.specs.Standing.{WorldModel}
-use Rattle.sw_play.specs.Story.{events_in}
-use Rattle.sw_play.specs.World.{World, empty_world}
+use Rattle.sw_play.specs.Play.{IsRun, Played}
+use Rattle.sw_world.specs.Scripted.{Scripted, empty_script}
+use Rattle.sw_world.specs.Standing.{WorldModel}
+use Rattle.sw_play.proofs.Stopped.{stopped}
 use Rattle.sw_play.specs.declared.playing.PlayEnd.{PlayEnd}
 use Rattle.sw_play.specs.declared.playing.PlayEnd.TheVariants as ended
 use Rattle.swift_main.specs.Answer.{IsAnswer, IsAnswerBy, IsLastLine}
@@ -31,22 +28,12 @@ answers_by one other answer given by = record {
 
 -- ---- a script over a fresh world
 
--- all the events were done, or the first so many
-stopped_ends : (cluster : ClusterModel) (lines : List (List ℕ)) (events : List Event) (after : World) (end : PlayEnd) → EndsBy cluster lines events after end → EndsBy cluster lines events after ended.NoMemory
-stopped_ends cluster lines events after ended.Done ends =
-    let all = events_from cluster 1 lines in (length all, ends.0 ∙ ap events_of (sym (take-length all)))
-stopped_ends cluster lines events after (ended.Line line fault) ends =
-    let all = events_from cluster 1 lines in (length all, ends.0 ∙ ap events_of (sym (take-length all)))
-stopped_ends cluster lines events after (ended.Spent line) ends = (ends.count, ends.done)
-stopped_ends cluster lines events after ended.NoMemory ends = ends
-
 -- a run is one that want of memory ended there
-stopped_run : (cluster : ClusterModel) (before : World) (lines : List (List ℕ)) (end : PlayEnd) (text : List ℕ) → IsRun cluster before lines end text → IsRun cluster before lines ended.NoMemory text
-stopped_run cluster before lines end text run = record {
+stopped_run : (before : Scripted) (lines : List (List ℕ)) (end : PlayEnd) (text : List ℕ) → IsRun before lines end text → IsRun before lines ended.NoMemory text
+stopped_run before lines end text run = record {
   story = run.story;
   after = run.after;
-  done = run.done;
-  ends = stopped_ends cluster lines (events_in run.story) run.after end run.ends;
+  plays = stopped before 1 lines run.story end run.after run.plays;
   text_is = run.text_is;
   found = run.found;
 }
@@ -65,7 +52,7 @@ ends_as (ended.Spent line) = refl
 ends_as ended.NoMemory = refl
 
 -- the answer of a script's end
-pub script_answers : (cluster : ClusterModel) (script : List ℕ) (end : PlayEnd) (left : WorldModel) (old text : List ℕ) (answer : Answer) → old ≡ [] → Played cluster empty_world (lines_of script) end left old text
+pub script_answers : (cluster : ClusterModel) (script : List ℕ) (end : PlayEnd) (left : WorldModel) (old text : List ℕ) (answer : Answer) → old ≡ [] → Played (empty_script cluster) (lines_of script) end left old text
     → UnlessMemory NoMemory answer.status ((answer.status ≡ status_of end) × (answer.text ≡ text ++ last_line (status_of end))) → (answer.status ≡ NoMemory → answer.text ≡ text)
     → IsAnswerBy (ScriptGives cluster script) answer
 script_answers cluster script end left old text answer empty played done none =
@@ -81,7 +68,7 @@ script_answers cluster script end left old text answer empty played done none =
           inr (
             ended.NoMemory,
             refl,
-            subst (λ t. IsRun cluster empty_world (lines_of script) ended.NoMemory t) (sym (none wants ∙ is)) (stopped_run cluster empty_world (lines_of script) end played.told played.run),
+            subst (λ t. IsRun (empty_script cluster) (lines_of script) ended.NoMemory t) (sym (none wants ∙ is)) (stopped_run (empty_script cluster) (lines_of script) end played.told played.run),
           );
     }
 

@@ -8,7 +8,7 @@ use Rattle.sw_ring.specs.Numbered.{ring_fault_number}
 use Rattle.sw_ring.specs.declared.fault.RingFault.{RingFault}
 use Rattle.sw_script.specs.Line.{line_fault_number, lines_of}
 use Rattle.sw_play.specs.Play.{IsRun}
-use Rattle.sw_play.specs.World.{empty_world}
+use Rattle.sw_world.specs.Scripted.{empty_script}
 use Rattle.sw_play.specs.declared.playing.PlayEnd.{PlayEnd}
 use Rattle.sw_play.specs.declared.playing.PlayEnd.TheVariants as ended
 use Rattle.swift_main.specs.declared.status.Status.{Status}
@@ -60,7 +60,7 @@ EndsAs other end = ⊥
 
 -- of a script over a cluster, from an empty world on: the text of a run
 abbrev pub ScriptGives : ClusterModel → List ℕ → Status → List ℕ → Type 0
-ScriptGives cluster script status told = (end : PlayEnd) × EndsAs status end × IsRun cluster empty_world (lines_of script) end told
+ScriptGives cluster script status told = (end : PlayEnd) × EndsAs status end × IsRun (empty_script cluster) (lines_of script) end told
 
 -- of a script behind a ring, or the rule that the ring breaks
 abbrev pub RingGives : Result RingMembers RingFault → List ℕ → Status → List ℕ → Type 0

@@ -3,8 +3,8 @@
 ghost use Rattle.std.specs.Prelude.{◌≡◌, ◌≤◌, ◌++◌, Err, IfErr, IfOk, length, map, string_bytes};
 ghost use Rattle.sw_words.specs.Memory.{UnlessMemory};
 ghost use Rattle.sw_play.specs.Play.{greatest_script};
-ghost use Rattle.sw_play.specs.Standing.{StandsFor};
-ghost use Rattle.sw_play.specs.World.{empty_world};
+ghost use Rattle.sw_world.specs.Standing.{StandsFor};
+ghost use Rattle.sw_world.specs.Scripted.{empty_script};
 ghost use Rattle.sw_ring.specs.Cluster.{ring_of};
 ghost use Rattle.swift_main.specs.Answer.{IsAnswer, IsAnswerBy, IsLastLine};
 ghost use Rattle.swift_main.specs.Input.{ring_text};
@@ -13,9 +13,10 @@ ghost use Rattle.swift_main.specs.Outcome.{RingGives, ScriptGives, is_play, last
 use crate::input::{at_empty_line, read_ring};
 use crate::status::Status;
 use std::alloc::Global;
-use sw_play::{GREATEST_SCRIPT, PlayEnd, World, play};
+use sw_play::{GREATEST_SCRIPT, PlayEnd, play};
 use sw_ring::RingFault;
 use sw_types::{Bytes, NoMemory};
+use sw_world::World;
 
 /// The greatest number of bytes of the input: its script may be as long.
 pub const GREATEST_INPUT: usize = GREATEST_SCRIPT;
@@ -73,7 +74,7 @@ fn last_line_alone(alloc: Global, status: Status) -> Answer
 // The answer to a script over a fresh world.
 fn run_script(alloc: Global, script: &[u8], world: &mut World<'_>) -> Answer
     requires { length script.now ≤ greatest_script }
-    ensures { StandsFor world.old empty_world → IsAnswerBy (ScriptGives world.old.cluster script.now) result }
+    ensures { StandsFor world.old (empty_script world.old.cluster) → IsAnswerBy (ScriptGives world.old.cluster script.now) result }
 {
     let mut text = Bytes::new(alloc);
     match play(alloc, script, world, &mut text) {

@@ -5,9 +5,10 @@ use std::alloc::{AllocError, Global};
 use std::process::Abort;
 use std::test::Fail;
 use sw_io::{MemSink, MemSource};
-use sw_play::{GREATEST_SCRIPT, PlayEnd, World, play};
+use sw_play::{GREATEST_SCRIPT, PlayEnd, play};
 use sw_ring::{Cluster, built_in};
 use sw_types::Bytes;
+use sw_world::World;
 
 const USAGE: &str = "usage: play | serve PORT WORKERS | load N\n";
 
@@ -305,8 +306,17 @@ fn ends_at_the_first_fault(rt: HostRuntime) -> Result<(), Fail> {
         ("\nshow 9 a/c/o", 3, "line 1: 7\n"),
         ("\nlose 9", 3, "line 1: 7\n"),
         ("\nrecon 9 a/c/o", 3, "line 1: 7\n"),
-        // A form that is read and not done yet.
-        ("\nstart recon 0 a/c/o", 3, "line 1: 1\n"),
+        ("\nstart recon 9 a/c/o", 3, "line 1: 7\n"),
+        // No message was made, and no operation was started.
+        ("\nmsg 99", 3, "line 1: 6\n"),
+        ("\ncrash 1 0 0", 3, "line 1: 6\n"),
+        ("\ngiveup 1", 3, "line 1: 8\n"),
+        // Of a put to three devices the fourth message is an answer, which can't crash.
+        (
+            "\nput a/c/o 61\ncrash 4 0 0",
+            3,
+            "e 1 created 1000000000.00000 3\nline 2: 6\n",
+        ),
         (
             "\nput a/c/o 61\n\nput a/c/o 6g\nget a/c/o",
             3,

@@ -4,7 +4,7 @@ use Rattle.sw_ring.specs.Cluster.{ClusterModel}
 use Rattle.sw_message.specs.Learnt.{Own}
 use Rattle.sw_message.specs.Running.{MayRun}
 use Rattle.sw_message.specs.Transcript.{Over, Step}
-use Rattle.sw_nodes.proofs.Alone.{are_handled, left_down}
+use Rattle.sw_nodes.proofs.Alone.{left_down}
 use Rattle.sw_nodes.proofs.running.run_alone.Goals as goal
 
 -- an operation of the cluster that has handed out nothing may run over a link that tells nothing
@@ -15,12 +15,11 @@ pub returns-clause-runs : goal.returns-clause-runs
 returns-clause-runs g c = λ begun stands same.
     let runs = c.in_ok-run.ensures.runs in
     let may = may_run (g.P.Operation.cluster begun) c.args.nodes.now.cluster (g.P.Operation.own begun) same in
-    let went = runs.2 begun [] stands may in
-    let handled = are_handled c.args.nodes.now runs.0 c.run.new.link (sym c.is_wanting.ensures ∙ c.if-is_wanting.false) runs.1 in (
+    let went = runs.2 begun [] stands may in (
       runs.0,
       subst (λ (past : List Step). g.P.Operation.stands c.run.new.op begun past) (append-nil runs.0) went.0,
       subst (λ (past : List Step). g.P.Operation.machine begun past Over) (append-nil runs.0) went.2,
-      handled.0,
+      runs.1,
     )
 
 pub returns-in_err-run-clause-down : goal.returns-in_err-run-clause-down

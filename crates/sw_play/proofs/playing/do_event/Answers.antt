@@ -1,6 +1,8 @@
+use Rattle.std.proofs.lemmas.Result.{err_from_is_err_and}
+use Rattle.sw_play.proofs.Lining.{stops_event}
 use Rattle.sw_play.proofs.playing.do_event.Goals as goal
 
-pub returns-in-Ok-print-clause-ok : goal.returns-in-Ok-print-clause-ok
-returns-in-Ok-print-clause-ok c before stands =
-    let done = c.in-Ok.ensures.does before stands in
-    record { past = done.0; told = c.in-Ok.told; after = done.1; does = done.2; text = c.in-Ok-print.ensures.ok; stands = done.3 }
+pub returns-in_err-told-clause-stops : goal.returns-in_err-told-clause-stops
+returns-in_err-told-clause-stops c before stands =
+    let (stop, is, by) = err_from_is_err_and c.from_residual.result c.from_residual.ensures.1 in
+    rw is (stops_event before c.args.event.now c.args.world.now c.step.new.self c.in_err-told.field-0.0 stop by (c.in_err-told.ensures.faults before stands))

@@ -1,0 +1,5 @@
+pub mod Exchange
+pub mod ExchangeInside
+pub mod Kept
+pub mod Letters
+pub mod Work
