@@ -1,0 +1,11 @@
+pub mod Devices
+pub mod Faults
+pub mod Grown
+pub mod Kept
+pub mod Moves
+pub mod News
+pub mod Quiet
+pub mod Replies
+pub mod Replying
+pub mod Runs
+pub mod Warrants
