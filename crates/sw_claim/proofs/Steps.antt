@@ -13,7 +13,7 @@ use Rattle.sw_message.specs.Warrant.{HasListing}
 use Rattle.sw_message.specs.declared.message.Msg.{Msg}
 use Rattle.sw_message.specs.declared.reply.Reply.{Reply}
 use Rattle.sw_objsrv.specs.Handling.{IsStamped}
-use Rattle.sw_objsrv.proofs.PlaceFolders.{one_place}
+use Rattle.sw_hashpath.proofs.Folders.{one_place}
 use Rattle.sw_claim.specs.Claim.{AsksAway, Claim, Claims, IsBorneBy, IsListedIn}
 use Rattle.sw_claim.proofs.Rows.{FineAt, ListsNames, handled-fine}
 use Rattle.sw_claim.proofs.Shown.{listing_has}

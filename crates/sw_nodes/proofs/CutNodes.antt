@@ -27,7 +27,7 @@ use Rattle.sw_message.specs.declared.reply.Reply.TheVariants.{DiskFault, NoMemor
 use Rattle.sw_objsrv.specs.Handling.{Handles, HandlesAt, IsBeforeOrAfter, StopsAt, StopsReading, folders_of, refused_reply, reply_of}
 use Rattle.sw_objsrv.specs.Node.{Handled, IsNode}
 use Rattle.sw_objsrv.proofs.Fetched.{stops_reading}
-use Rattle.sw_objsrv.proofs.PlaceFolders.{one_place}
+use Rattle.sw_hashpath.proofs.Folders.{one_place}
 use Rattle.sw_objsrv.proofs.Walks.{IsKept, answered_keeps}
 use Rattle.sw_scene.specs.Devices.{IsFree, capacity_of}
 use Rattle.sw_scene.specs.Disks.{IsHeldWithin, IsLeftOf, Sure}

@@ -26,7 +26,7 @@ use Rattle.sw_diskfile.proofs.Normal.{none_left}
 use Rattle.sw_diskfile.proofs.Obsoletes.{obsolete_same, one_directory}
 use Rattle.sw_diskfile.proofs.Outcomes.{both_map}
 use Rattle.sw_objsrv.specs.Changing.{LeavesOrder}
-use Rattle.sw_objsrv.proofs.PlaceFolders.{one_place}
+use Rattle.sw_hashpath.proofs.Folders.{one_place}
 use Rattle.sw_objsrv.proofs.Told.{Both, both_each, both_told, has_told, told_after, told_both, told_still}
 use Rattle.sw_diskfile.proofs.Directories.{same_or_other}
 use Rattle.sw_hashdir.specs.Laws.{twin_more}

@@ -20,7 +20,7 @@ use Rattle.sw_objsrv.specs.Mounting.{IsFolderOf, TidiesEach, mount_fault}
 use Rattle.sw_objsrv.specs.declared.fault.MountFault.{MountFault}
 use Rattle.sw_objsrv.specs.declared.fault.MountFault.TheVariants.{Failed}
 use Rattle.sw_objsrv.proofs.Keeping.{IsDisk, KeepsFolder, folder_kept, folder_more, folder_self, folder_tidied, keeps_fewer, keeps_more, keeps_self}
-use Rattle.sw_objsrv.proofs.PlaceFolders.{one_place}
+use Rattle.sw_hashpath.proofs.Folders.{one_place}
 
 mount_failed : (reason : DiskRefusal) → mount_fault reason ≡ Failed → reason ≡ refusal.Failed
 mount_failed refusal.Failed is = refl

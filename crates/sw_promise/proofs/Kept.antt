@@ -9,7 +9,7 @@ use Rattle.sw_message.specs.declared.message.Msg.{Msg}
 use Rattle.sw_message.specs.declared.message.Msg.TheVariants as message
 use Rattle.sw_message.specs.declared.reply.Reply.{Reply}
 use Rattle.sw_objsrv.specs.Handling.{IsStamped}
-use Rattle.sw_objsrv.proofs.PlaceFolders.{one_place}
+use Rattle.sw_hashpath.proofs.Folders.{one_place}
 use Rattle.sw_claim.specs.Claim.{ADurableEntry, ATombstone, AnEntry, AsksAway, Claim, IsBorneBy, IsOfIndex, What}
 use Rattle.sw_claim.proofs.Crashes.{crash_bears}
 use Rattle.sw_claim.proofs.Decisions.{OrNot, both, same_or_not}

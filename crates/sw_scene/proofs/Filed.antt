@@ -20,7 +20,7 @@ use Rattle.sw_scene.specs.Devices.{AreSame, Devices, IsDeviceStep, IsHandledBy}
 use Rattle.sw_scene.specs.Filed.{AreFiled, FoldersFiled, IsFiled}
 use Rattle.sw_scene.proofs.Changed.{all_changed-kept}
 use Rattle.sw_scene.proofs.Leaving.{Leave}
-use Rattle.sw_scene.proofs.Places.{one_place}
+use Rattle.sw_hashpath.proofs.Folders.{one_place}
 use Rattle.sw_scene.proofs.Rows.{FineAt, handled-fine}
 
 -- what is about no place shows no archive

@@ -6,7 +6,6 @@ pub mod Growth
 pub mod Held
 pub mod Knowledge
 pub mod Leaving
-pub mod Places
 pub mod Rows
 pub mod Sounds
 pub mod Tombstones

@@ -9,7 +9,8 @@ use Rattle.sw_message.specs.Message.{is_primary}
 use Rattle.sw_objsrv.specs.Folder.{IsInOrder}
 use Rattle.sw_objsrv.specs.Mounting.{fault_of}
 use Rattle.sw_objsrv.proofs.MountedFloors.{tidied_told}
-use Rattle.sw_objsrv.proofs.PlaceFolders.{folder_short, one_place}
+use Rattle.sw_hashpath.proofs.Folders.{one_place}
+use Rattle.sw_objsrv.proofs.PlaceFolders.{folder_short}
 use Rattle.sw_objsrv.proofs.mounting.mount_folder.Goals as goal
 
 pub tidy-requires : goal.tidy-requires

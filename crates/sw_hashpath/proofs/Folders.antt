@@ -1,11 +1,11 @@
--- Places and the names of their folders.
+-- The folder of a place is that of no other.
 use Rattle.std.proofs.Common.{◌≡◌, ℕ, ◌-◌, List, drop, length, Ok, sym, ap, ◌∙◌, refl}
 use Rattle.hex.specs.Hex.{decode_of, encode_lower}
 use Rattle.hex.proofs.HexLemmas.{decode_of-encode_lower}
 use Rattle.sw_hashpath.specs.Place.{IsPlace, PlaceModel, folder_of}
 use Rattle.sw_hashpath.proofs.Hashes.{digits_at_end as text_end, folder_end, place_of-hash}
 
--- a folder's name ends with the digits of the hash
+-- its name ends with the digits of the hash
 digits_at_end : (power : ℕ) (place : PlaceModel) → IsPlace power place → drop (length (folder_of place) - 32) (folder_of place) ≡ encode_lower place.hash
 digits_at_end power place is_place = let end = folder_end place in text_end (folder_of place) end.0 place.hash is_place.hash.sixteen end.1
 
