@@ -35,20 +35,20 @@ given_up-told past ticket sent reply =
 
 module _ (machine : List Step → Next → Type 0) (numbers : Numbers machine) where
   -- the tickets of those that were handed out are below their number
-  below : (past : List Step) → IsRun machine past → (sent : Sent) → Contains (given past) sent → sent.ticket < length (given past)
-  below [] run sent has = absurd (Contains-none sent has)
-  below (Gave first ∷ past) run sent has = ⊎_elim
+  pub given-below : (past : List Step) → IsRun machine past → (sent : Sent) → Contains (given past) sent → sent.ticket < length (given past)
+  given-below [] run sent has = absurd (Contains-none sent has)
+  given-below (Gave first ∷ past) run sent has = ⊎_elim
       (λ same. omega (arith, ap (λ (one : Sent). one.ticket) same, numbers past first run.0))
-      (λ later. omega (arith, below past run.1 sent later))
+      (λ later. omega (arith, given-below past run.1 sent later))
       (Contains-cases first (given past) sent has)
-  below (Told first answer ∷ past) run sent has = below past run.1 sent has
+  given-below (Told first answer ∷ past) run sent has = given-below past run.1 sent has
 
   -- no two of them have one ticket
   one_of : (past : List Step) → IsRun machine past → (last a b : Sent) → last.ticket ≡ length (given past) → (Contains (given past) a → Contains (given past) b → a ≡ b) → (last ≡ a) ⊎ Contains (given past) a
       → (last ≡ b) ⊎ Contains (given past) b → a.ticket ≡ b.ticket → a ≡ b
   one_of past run last a b number earlier (inl first) (inl second) same = sym first ∙ second
-  one_of past run last a b number earlier (inl first) (inr second) same = absurd (omega (arith, same, number, ap (λ (one : Sent). one.ticket) first, below past run b second))
-  one_of past run last a b number earlier (inr first) (inl second) same = absurd (omega (arith, same, number, ap (λ (one : Sent). one.ticket) second, below past run a first))
+  one_of past run last a b number earlier (inl first) (inr second) same = absurd (omega (arith, same, number, ap (λ (one : Sent). one.ticket) first, given-below past run b second))
+  one_of past run last a b number earlier (inr first) (inl second) same = absurd (omega (arith, same, number, ap (λ (one : Sent). one.ticket) second, given-below past run a first))
   one_of past run last a b number earlier (inr first) (inr second) same = earlier first second
 
   one_given : (past : List Step) → IsRun machine past → (a b : Sent) → Contains (given past) a → Contains (given past) b → a.ticket ≡ b.ticket → a ≡ b

@@ -12,7 +12,7 @@ use Rattle.sw_core.specs.Sound.{IsSoundWorld}
 use Rattle.sw_core.specs.World.{HandsOut, Operating, World, numbered}
 use Rattle.sw_core.proofs.Machines.{numbers}
 use Rattle.sw_core.proofs.Numbered.{numbered-contains}
-use Rattle.sw_world.proofs.Places.{Contains-cases}
+use Rattle.sw_core.proofs.Transcripts.{given-below}
 
 -- a message has a ticket
 abbrev has_ticket : ℕ → Sent → Bool
@@ -126,19 +126,10 @@ module _ (begun : Begun) where
   handed-more [] past later same = omega (arith, ap (λ (steps : List Step). length (given steps)) same)
   handed-more (first ∷ sents) past later (next, more) = omega (arith, handed-more sents (Gave first ∷ past) later more)
 
-  -- the tickets of those that were handed out are below their number
-  given-below : (past : List Step) → IsRun (IsNext begun) past → (sent : Sent) → Contains (given past) sent → sent.ticket < length (given past)
-  given-below [] run sent (place, within, is) = absurd (omega (arith, within))
-  given-below (Gave first ∷ past) run sent has = ⊎_elim
-      (λ same. omega (arith, ap (λ (one : Sent). one.ticket) same, numbers begun past first run.0))
-      (λ later. omega (arith, given-below past run.1 sent later))
-      (Contains-cases first (given past) sent has)
-  given-below (Told first answer ∷ past) run sent has = given-below past run.1 sent has
-
 -- the ticket of a reply that was made is one of those that its operation handed out
 pub answer-below : (cluster : ClusterModel) (world : World) → IsSoundWorld cluster world → (place at number : ℕ) (sent : Sent) (reply : Reply) → slice_get world.scene.mail place ≡ Some (Answer at number sent reply)
     → (operation : Operating) → numbered world.operations number ≡ Some operation → sent.ticket < length (given operation.past)
 answer-below cluster world sound place at number sent reply made operation is =
     let stands = sound.operations number operation is in
     let asked = sound.scene.asked at number sent reply (numbered-contains world.scene.mail (suc place) (Answer at number sent reply) made) in
-    given-below operation.begun operation.past stands.run sent (stands.requests asked.0 sent asked.2).1
+    given-below (IsNext operation.begun) (numbers operation.begun) operation.past stands.run sent (stands.requests asked.0 sent asked.2).1

@@ -3,7 +3,7 @@ use Rattle.std.proofs.Common.{◌≡◌, ◌⊎◌, ⊎_elim, ℕ, zero, suc, �
 use Rattle.std.proofs.Math.Bool.{or-false}
 use Rattle.std.proofs.lemmas.Bool.{cond-true, eq-eqb, ne_eqb}
 use Rattle.std.specs.List.{AllZip}
-use Rattle.std.proofs.lemmas.Option.{none-some, slice_get_within}
+use Rattle.std.proofs.lemmas.Option.{none-some}
 use Rattle.sw_ring.specs.Cluster.{ClusterModel}
 use Rattle.sw_ring.specs.Ring.{is_among}
 use Rattle.sw_message.specs.Message.{IsMember}
@@ -30,16 +30,17 @@ use Rattle.sw_told.specs.declared.told.Told.{Told}
 use Rattle.sw_world.specs.Doing.{event_fault, request_fault}
 use Rattle.sw_world.specs.Leading.{DoesIt, FaultsBy}
 use Rattle.sw_world.specs.Scripted.{Scripted}
-use Rattle.sw_world.specs.Standing.{IsLetterOf, StandsFor, WorldModel}
+use Rattle.sw_world.specs.Standing.{StandsFor, WorldModel}
 use Rattle.sw_world.specs.Unfolding.{IsCutAt}
 use Rattle.sw_world.specs.declared.fault.StepFault.{StepFault}
 use Rattle.sw_world.specs.declared.fault.StepFault.TheVariants.{NoSuchMessage}
 use Rattle.sw_world.proofs.Deliveries.{may, with_nodes}
 use Rattle.sw_world.proofs.DeviceChanges.{IsNow, each-now, left_with, moved, moved-stands, none-now, with_one}
 use Rattle.sw_world.proofs.DeviceEvents.{disk_is, up_is}
+use Rattle.sw_world.proofs.LetterMails.{IsRequestOf, reply-of, request-of}
 use Rattle.sw_world.proofs.Likeness.{AreClosed, alike}
 use Rattle.sw_world.proofs.OneEvents.{one-event}
-use Rattle.sw_world.proofs.Places.{Contains-cases, item-at, zip-at, zip-length}
+use Rattle.sw_world.proofs.Places.{Contains-cases}
 use Rattle.sw_world.proofs.Posts.{IsPost, one-delivered}
 
 -- ---- messages that there are not
@@ -63,47 +64,10 @@ pub no-message : {Answered : Type 0} (line : Event) (before : Scripted) (result 
     → (old new : WorldModel) → new ≡ old → IfErr result (λ given. FaultsBy line before given old new)
 no-message line before result fault is same faulty old new kept = subst (λ (one : Result _ StepFault). IfErr one (λ given. FaultsBy line before given old new)) (sym (is ∙ ap Err same)) (faulty, kept)
 
--- ---- the request of a letter
-
--- the letter at a place is that of this request
-pub record IsAsked (before : Scripted) (place : ℕ) (letter : Letter) (msg : Msg) : Type 0 where
-  pub at : ℕ
-  pub operation : ℕ
-  pub sent : Sent
-  pub made : slice_get before.world.scene.mail place ≡ Some (Request at operation sent)
-  pub is_letter : IsLetterOf letter (Request at operation sent)
-  pub msg_is : msg ≡ sent.msg
-
-module _ (model : WorldModel) (before : Scripted) (stands : StandsFor model before) (place : ℕ) (letter : Letter) (here : slice_get model.letters place ≡ Some letter) where
-  -- a message was made for a letter
-  pub made-for : (mail : Mail) × (slice_get before.world.scene.mail place ≡ Some mail) × IsLetterOf letter mail
-  made-for =
-      let at = item-at before.world.scene.mail place (omega (arith, slice_get_within model.letters place letter here, zip-length IsLetterOf model.letters before.world.scene.mail stands.letters)) in
-      (at.0, at.1, zip-at IsLetterOf model.letters before.world.scene.mail stands.letters place letter at.0 here at.1)
-
-  module _ (msg : Msg) (content_is : letter.content ≡ content.Request msg) where
-    -- which is one where the letter is that of one
-    asked-by : (mail : Mail) → slice_get before.world.scene.mail place ≡ Some mail → IsLetterOf letter mail → IsAsked before place letter msg
-    asked-by (Request at operation sent) made is =
-        let both : content.Request msg ≡ content.Request sent.msg = sym content_is ∙ is.3 in
-        record { at = at; operation = operation; sent = sent; made = made; is_letter = is; msg_is = (cc) }
-    asked-by (Answer at operation sent reply) made is =
-        let both : content.Request msg ≡ content.Answer is.3 = sym content_is ∙ is.4 in
-        absurd (cc)
-
-    -- the request of the letter
-    pub asked : IsAsked before place letter msg
-    asked = let found = made-for in asked-by found.0 found.1 found.2
-
-  -- the letter of an answer is that of no request
-  pub no-request : (given : Option Reply) → letter.content ≡ content.Answer given → request_fault (slice_get before.world.scene.mail place) ≡ Some NoMessage
-  no-request given content_is = let found = made-for in by_mail found.0 found.1 found.2
-    where
-      by_mail : (mail : Mail) → slice_get before.world.scene.mail place ≡ Some mail → IsLetterOf letter mail → request_fault (slice_get before.world.scene.mail place) ≡ Some NoMessage
-      by_mail (Request at operation sent) made is =
-          let both : content.Answer given ≡ content.Request sent.msg = sym content_is ∙ is.3 in
-          absurd (cc)
-      by_mail (Answer at operation sent reply) made is = ap request_fault made
+-- the letter of an answer is that of no request
+pub no-request : (model : WorldModel) (before : Scripted) (stands : StandsFor model before) (place : ℕ) (letter : Letter) → slice_get model.letters place ≡ Some letter → (given : Option Reply) → letter.content ≡ content.Answer given
+    → request_fault (slice_get before.world.scene.mail place) ≡ Some NoMessage
+no-request model before stands place letter here given says = ap request_fault (reply-of model before stands place letter here given says).made
 
 -- ---- a crash
 
@@ -119,8 +83,8 @@ module _ (all : NodesModel) (rest : WorldModel) (before : Scripted) (stands : St
   abbrev scene : Scene
   scene = before.world.scene
 
-  abbrev ask : IsAsked before place letter msg
-  ask = asked model before stands place letter here msg content_is
+  abbrev ask : IsRequestOf before.world.scene.mail place letter msg
+  ask = request-of model before stands place letter here msg content_is
 
   abbrev sent : Sent
   sent = ask.sent
@@ -136,21 +100,21 @@ module _ (all : NodesModel) (rest : WorldModel) (before : Scripted) (stands : St
 
   -- its device is one of the cluster, and the line names it
   member : IsMember all.cluster sent.device
-  member = (may model before stands place letter here ask.at ask.operation sent ask.made).member
+  member = (may model before stands place letter here ask.at ask.number sent ask.made).member
 
   fine : event_fault before line ≡ None
   fine = ap request_fault ask.made
 
   -- it counts as delivered
   post : IsPost all.cluster letters rest.first (length rest.operations) scene.mail delivered
-  post = one-delivered all.cluster rest.letters rest.first (length rest.operations) scene.mail before.delivered (alike model before stands).post place letter (marked letter) (Request ask.at ask.operation sent) here ask.made ask.is_letter refl refl
+  post = one-delivered all.cluster rest.letters rest.first (length rest.operations) scene.mail before.delivered (alike model before stands).post place letter (marked letter) (Request ask.at ask.number sent) here ask.made ask.is_letter refl refl
 
   -- and no reply more does
   closed : AreClosed scene.mail delivered before.world.operations
   closed other at number one reply is has = ⊎_elim
       (λ same.
       let equal : other ≡ place = omega (arith, same) in
-      let apart : Some (Request ask.at ask.operation sent) ≡ Some (Answer at number one reply) = sym ask.made ∙ subst (λ (n : ℕ). slice_get scene.mail n ≡ Some (Answer at number one reply)) equal is in
+      let apart : Some (Request ask.at ask.number sent) ≡ Some (Answer at number one reply) = sym ask.made ∙ subst (λ (n : ℕ). slice_get scene.mail n ≡ Some (Answer at number one reply)) equal is in
       absurd (cc))
       (λ later. stands.closed other at number one reply is later)
       (Contains-cases (suc place) before.delivered (suc other) has)
@@ -158,7 +122,7 @@ module _ (all : NodesModel) (rest : WorldModel) (before : Scripted) (stands : St
   -- there is one request of the number
   same_sent : (at number : ℕ) (one : Sent) → slice_get scene.mail place ≡ Some (Request at number one) → sent ≡ one
   same_sent at number one made =
-      let both : Some (Request ask.at ask.operation sent) ≡ Some (Request at number one) = sym ask.made ∙ made in
+      let both : Some (Request ask.at ask.number sent) ≡ Some (Request at number one) = sym ask.made ∙ made in
       cc
 
   -- what may happen to a request happened
@@ -262,5 +226,5 @@ module _ (all : NodesModel) (rest : WorldModel) (before : Scripted) (stands : St
       (down-does (subst (λ (device : ℕ). is_among all.down device ≡ true) ask.is_letter.2 is.0)))
       (λ is.
       up-does (subst (λ (device : ℕ). is_among all.down device ≡ false) ask.is_letter.2 is.0) later
-      (subst (λ (device : ℕ). Crashes all device sent.msg calls pick later) ask.is_letter.2 (subst (λ (one : Msg). Crashes all letter.device one calls pick later) ask.msg_is is.1)))
+      (subst (λ (device : ℕ). Crashes all device sent.msg calls pick later) ask.is_letter.2 (subst (λ (one : Msg). Crashes all letter.device one calls pick later) (sym ask.msg_is) is.1)))
       either

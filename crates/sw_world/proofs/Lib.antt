@@ -14,6 +14,7 @@ pub mod GivingUp
 pub mod Going
 pub mod Insides
 pub mod Leasts
+pub mod LetterMails
 pub mod Likeness
 pub mod Longer
 pub mod MadeLines

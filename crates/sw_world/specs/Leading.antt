@@ -1,5 +1,5 @@
 -- How calls of a world lead it on.
-use Rattle.std.specs.Prelude.{◌≡◌, ◌≤◌, ◌<◌, ℕ, ◌+◌, suc, true, List, [], ◌∷◌, ◌++◌, length, map, Option, Some, None, ⊤}
+use Rattle.std.specs.Prelude.{◌≡◌, ◌≤◌, ◌<◌, ℕ, ◌+◌, true, List, [], ◌∷◌, ◌++◌, map, Option, Some, None, ⊤}
 use Rattle.std.specs.List.{AllZip}
 use Rattle.sw_types.specs.Stamp.{greatest_stamp}
 use Rattle.sw_archive.specs.Put.{IsPut}
@@ -16,7 +16,7 @@ use Rattle.sw_told.specs.declared.end.EndLine.{EndLine}
 use Rattle.sw_told.specs.declared.told.Told.{Told}
 use Rattle.sw_world.specs.Scripted.{AreSteps, IsAny, IsStep, Scripted, Step, Waits, events_in, open_tickets}
 use Rattle.sw_world.specs.Standing.{StandsFor, WorldModel}
-use Rattle.sw_world.specs.Doing.{DoesEvent, Done, IsSpent, draws, event_fault, job_fault}
+use Rattle.sw_world.specs.Doing.{DoesEvent, IsSpent, draws, event_fault, job_fault}
 use Rattle.sw_world.specs.Unfolding.{TellsEnd, TellsEnds, ended_from}
 use Rattle.sw_world.specs.declared.fault.StepFault.{StepFault}
 use Rattle.sw_world.specs.declared.fault.StepFault.TheVariants.{NoMemory, NoSuchDevice, NoSuchMessage, NoSuchOperation, StampsSpent}

@@ -1,5 +1,5 @@
 -- A world as a script leads it: which of its messages were delivered, and the steps of a line.
-use Rattle.std.specs.Prelude.{◌≡◌, ℕ, ◌<◌, ◌+◌, Bool, true, if◌then◌else◌, List, [], ◌∷◌, Contains, length, map, reverse, Option, Some, None}
+use Rattle.std.specs.Prelude.{◌≡◌, ℕ, ◌<◌, true, if◌then◌else◌, List, [], ◌∷◌, Contains, length, map, reverse, Option, Some, None}
 use Rattle.sw_ring.specs.Cluster.{ClusterModel}
 use Rattle.sw_message.specs.Transcript.{opens}
 use Rattle.sw_message.specs.declared.sent.Sent.{Sent}

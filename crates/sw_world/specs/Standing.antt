@@ -1,5 +1,5 @@
 -- What contracts see of a world, and the world of a script that it stands for.
-use Rattle.std.specs.Prelude.{◌≡◌, ◌↔◌, ◌≤◌, ◌<◌, ℕ, ◌+◌, suc, Bool, true, false, not, List, [], ◌∷◌, ◌++◌, Contains, length, slice_get, Option, Some, None}
+use Rattle.std.specs.Prelude.{◌≡◌, ◌↔◌, ◌≤◌, ◌<◌, ℕ, suc, Bool, true, false, not, List, Contains, length, slice_get, Option, Some, None}
 use Rattle.std.specs.List.{AllZip}
 use Rattle.sw_ring.specs.Cluster.{ClusterModel}
 use Rattle.sw_ring.specs.Ring.{is_among}

@@ -1,5 +1,5 @@
 -- The basic events of each form of a line, and what is told of them.
-use Rattle.std.specs.Prelude.{◌≡◌, ◌⊎◌, ℕ, ◌+◌, Bool, true, false, not, ◌&&◌, if◌then◌else◌, List, [], ◌∷◌, ◌++◌, drop, length, map, Option, Some, None, option_to_list}
+use Rattle.std.specs.Prelude.{◌≡◌, ◌⊎◌, ℕ, ◌+◌, Bool, true, not, ◌&&◌, if◌then◌else◌, List, [], ◌∷◌, ◌++◌, drop, length, map, Some, None, option_to_list}
 use Rattle.std.specs.List.{AllZip}
 use Rattle.sw_hashpath.specs.Place.{folder_of}
 use Rattle.sw_ring.specs.Cluster.{place_of_name}
@@ -8,7 +8,7 @@ use Rattle.sw_message.specs.declared.sent.Sent.{Sent}
 use Rattle.sw_scene.specs.Disks.{Sure}
 use Rattle.sw_scene.specs.Scene.{Answer, Mail, Request, disk_of, is_up}
 use Rattle.sw_core.specs.Event as core
-use Rattle.sw_core.specs.World.{Operating, World, numbered}
+use Rattle.sw_core.specs.World.{Operating, numbered}
 use Rattle.sw_operation.specs.Ends.{IsEndOf}
 use Rattle.sw_nodes.specs.Crashing.{IsCut}
 use Rattle.sw_script.specs.declared.event.Event.{Event}
@@ -17,8 +17,6 @@ use Rattle.sw_script.specs.declared.event.Job.{Job}
 use Rattle.sw_script.specs.declared.event.Job.TheVariants as job
 use Rattle.sw_told.specs.Sent.{answer_kind, request_kind}
 use Rattle.sw_told.specs.declared.end.EndLine.{EndLine}
-use Rattle.sw_told.specs.declared.sent.AnswerKind.{AnswerKind}
-use Rattle.sw_told.specs.declared.sent.RequestKind.{RequestKind}
 use Rattle.sw_told.specs.declared.sent.SentLine.{SentLine}
 use Rattle.sw_told.specs.declared.sent.SentLine.TheVariants as told
 use Rattle.sw_told.specs.declared.show.ShowLine.{ShowLine}
