@@ -32,7 +32,7 @@ module _ (Goes : List ℕ → Type 0) where
       (Contains-cases file.name (names_of files) text has))
 
   -- each that is left was there
-  left_before : (files left : List File) → AreThoseLeft Goes files left → (text : List ℕ) → Contains (names_of left) text → Contains (names_of files) text
+  pub left_before : (files left : List File) → AreThoseLeft Goes files left → (text : List ℕ) → Contains (names_of left) text → Contains (names_of files) text
   left_before [] left are text has = subst (λ (fs : List File). Contains (names_of fs) text) are has
   left_before (file ∷ files) left (inl gone) text has = Contains-later file.name (names_of files) text (left_before files left gone.1 text has)
   left_before (file ∷ files) left (inr stays) text has = ⊎_elim

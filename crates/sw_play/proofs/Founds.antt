@@ -27,10 +27,10 @@ use Rattle.sw_play.proofs.Overs.{over_stays}
 -- ---- whose end is told
 
 -- the operation of an end that is told
-abbrev IsEndIn : Scripted → EndLine → Type 0
+abbrev pub IsEndIn : Scripted → EndLine → Type 0
 IsEndIn after line = (operation : Operating) × (numbered after.world.operations line.operation ≡ Some operation) × IsEndOf operation.begun operation.past line.end
 
-ends_in : (before : Scripted) (steps : List Step) (after : Scripted) (ends : List EndLine) → AreSteps before steps after → TellsEnds before steps ends → (line : EndLine) → Contains ends line → IsEndIn after line
+pub ends_in : (before : Scripted) (steps : List Step) (after : Scripted) (ends : List EndLine) → AreSteps before steps after → TellsEnds before steps ends → (line : EndLine) → Contains ends line → IsEndIn after line
 ends_in before [] after ends are none line has = absurd (Contains-none line (subst (λ (lines : List EndLine). Contains lines line) none has))
 ends_in before (step ∷ steps) after ends (first, rest) (mine, others, both, told, later) line has = ⊎_elim
     (λ here.

@@ -1,6 +1,10 @@
 pub mod Cuts
 pub mod Founds
+pub mod Keeping
+pub mod Leads
 pub mod Lining
 pub mod Overs
 pub mod Progress
+pub mod Starts
 pub mod Stopped
+pub mod Stories

@@ -5,6 +5,9 @@ use Rattle.std.proofs.lemmas.List.{map-append}
 use Rattle.std.proofs.lemmas.List.Elements.{Contains-push_cases}
 use Rattle.std.proofs.lemmas.List.Folds.{concat-append}
 use Rattle.sw_diskfile.proofs.Lists.{Contains-none}
+use Rattle.sw_ring.specs.Cluster.{ClusterModel}
+use Rattle.sw_core.specs.Event as core
+use Rattle.sw_core.specs.Event.{IsRun}
 use Rattle.sw_script.specs.Line.{event_of}
 use Rattle.sw_script.specs.declared.event.Event.{Event}
 use Rattle.sw_script.specs.declared.fault.LineFault.{LineFault}
@@ -19,6 +22,12 @@ use Rattle.sw_play.specs.declared.playing.LineStop.TheVariants as stop
 use Rattle.sw_play.specs.declared.playing.PlayEnd.{PlayEnd}
 use Rattle.sw_play.specs.declared.playing.PlayEnd.TheVariants as ended
 use Rattle.sw_play.proofs.Founds.{tells_one_put}
+use Rattle.sw_play.proofs.Keeping.{keeps_word}
+use Rattle.sw_play.proofs.Stories.{plays_does}
+
+-- some basic events led to a world
+abbrev IsOfRun : Scripted → Type 0
+IsOfRun before = (events : List core.Event) × IsRun before.world.scene.cluster events before.world
 
 -- these lines were done, and those are left, the first of which has the next number
 pub record Progress (before : Scripted) (left : WorldModel) (old new : List ℕ) (number : ℕ) (lines all : List (List ℕ)) : Type 0 where
@@ -29,6 +38,8 @@ pub record Progress (before : Scripted) (left : WorldModel) (old new : List ℕ)
   pub text : new ≡ old ++ story_text story
   pub stands : StandsFor left after
   pub found : (done : Done) → Contains story done → TellsOnePut done
+  -- the first of it is a world of a run
+  pub begins : IsOfRun before
 
 -- nothing was done
 pub none_done : (before : Scripted) (left : WorldModel) (text : List ℕ) (all : List (List ℕ)) → StandsFor left before → Progress before left text text 0 all all
@@ -39,6 +50,7 @@ none_done before left text all stands = record {
   text = sym (append-nil text);
   stands = stands;
   found = λ done has. absurd (Contains-none done has);
+  begins = (stands.events, subst (λ (cluster : ClusterModel). IsRun cluster stands.events before.world) (sym stands.cluster_is) stands.run);
 }
 
 -- ---- one line more
@@ -64,6 +76,7 @@ module _ (before : Scripted) (middle left : WorldModel) (old between new : List 
     text = same ∙ progress.text;
     stands = stands;
     found = progress.found;
+    begins = progress.begins;
   }
   event_done (Some event) is tells =
       let done : Done = record { event = event; steps = tells.does.steps; told = tells.told; after = tells.does.after } in
@@ -82,6 +95,7 @@ module _ (before : Scripted) (middle left : WorldModel) (old between new : List 
             (λ earlier. progress.found one earlier)
             (λ this. subst TellsOnePut this (tells_one_put left.cluster tells.does.stands.events progress.after done tells.does.does tells.does.stands.run))
             (Contains-push_cases progress.story done one has);
+        begins = progress.begins;
       }
 
   pub line_done : DoesLine progress.after line left between new → Progress before left old new (number + 1) lines all
@@ -119,19 +133,23 @@ module _ (at : Scripted) (number : ℕ) (line : List ℕ) (lines : List (List �
 module _ (before : Scripted) (middle : WorldModel) (old new : List ℕ) (number : ℕ) (lines all : List (List ℕ)) (progress : Progress before middle old new number lines all) where
   played : (end : PlayEnd) (left : WorldModel) → Plays progress.after (number + 1) lines [] end progress.after → (end ≢ ended.NoMemory → left ≡ middle) → (end ≡ ended.NoMemory → left.is_wanting ≡ true)
       → Played before all end left old new
-  played end left plays kept wants = record {
-    told = story_text progress.story;
-    run = record {
-      story = progress.story;
-      after = progress.after;
-      plays = subst (λ (story : List Done). Plays before 1 all story end progress.after) (append-nil progress.story) (progress.plays [] end progress.after plays);
-      text_is = refl;
-      found = progress.found;
-    };
-    text = progress.text;
-    stands = λ goes. subst (λ (world : WorldModel). StandsFor world progress.after) (sym (kept goes)) progress.stands;
-    wants = wants;
-  }
+  played end left plays kept wants =
+      let all_plays = subst (λ (story : List Done). Plays before 1 all story end progress.after) (append-nil progress.story) (progress.plays [] end progress.after plays) in
+      record {
+        told = story_text progress.story;
+        run = record {
+          story = progress.story;
+          after = progress.after;
+          plays = all_plays;
+          text_is = refl;
+          found = progress.found;
+          promised =
+              keeps_word before.world.scene.cluster before progress.begins.0 progress.begins.1 progress.story progress.after (plays_does before 1 all progress.story end progress.after all_plays);
+        };
+        text = progress.text;
+        stands = λ goes. subst (λ (world : WorldModel). StandsFor world progress.after) (sym (kept goes)) progress.stands;
+        wants = wants;
+      }
 
   -- no line is left
   pub played_done : lines ≡ [] → Played before all ended.Done middle old new

@@ -1,3 +1,4 @@
 pub mod Lines
 pub mod Play
+pub mod Promised
 pub mod Story

@@ -36,6 +36,7 @@ stopped_run before lines end text run = record {
   plays = stopped before 1 lines run.story end run.after run.plays;
   text_is = run.text_is;
   found = run.found;
+  promised = run.promised;
 }
 
 -- the status of the end of a script

@@ -1,0 +1,4 @@
+pub mod Handoffs
+pub mod Orders
+pub mod Sendings
+pub mod Showings

@@ -1,0 +1,78 @@
+-- A get in whose last round a floor of a stamp or above it is listed tells of nothing older than that stamp.
+use Rattle.std.proofs.Common.{◌≡◌, inl, ⊎_elim, ℕ, ◌<◌, ◌≤◌, Contains, List, Some, ap, subst, arith}
+use Rattle.std.proofs.lemmas.List.Elements.{Contains-append_right}
+use Rattle.sw_hashdir.specs.Listing.{ListingModel}
+use Rattle.sw_hashdir.specs.declared.floor.Floor.{Floor}
+use Rattle.sw_diskfile.proofs.Lists.{Contains-none}
+use Rattle.sw_ring.specs.Cluster.{ClusterModel}
+use Rattle.sw_message.specs.Floors.{durable_at, floors_in}
+use Rattle.sw_message.specs.Transcript.{Step}
+use Rattle.sw_gather.proofs.Lists.{in_flat}
+use Rattle.sw_get.specs.Causes.{HasTarget, IsShown, LastRound, floors_before, floors_listed}
+use Rattle.sw_get.specs.Get as gets
+use Rattle.sw_get.specs.declared.end.GetEnd.{GetEnd}
+use Rattle.sw_get.specs.declared.end.GetEnd.TheVariants.{Absent, Buried, Found, Overtaken, TooFew, Unanswered}
+use Rattle.sw_get.proofs.Ends.{ends_absent, ends_buried}
+use Rattle.sw_core.specs.Event.{Event, IsRun}
+use Rattle.sw_core.specs.Operating.{IsGetOf}
+use Rattle.sw_core.specs.World.{Operating, World, numbered}
+use Rattle.sw_core.proofs.Runs.{found}
+use Rattle.sw_homes.specs.Homes.{IsFloorHeard, Reaches}
+use Rattle.sw_headline.specs.Ends.{IsNotOlder}
+use Rattle.sw_headline.proofs.Gets.{IsGot}
+use Rattle.sw_headline.proofs.Heard.{IsHearing}
+
+-- in the last round a floor was listed whose stamp is not less than this one
+pub record IsReached (begun : gets.Begun) (past : List Step) (turns : List gets.Turn) (stamp : ℕ) : Type 0 where
+  pub listing : ListingModel
+  pub floor : Floor
+  pub shown : IsShown past listing
+  pub there : Contains (floors_in listing) floor
+  pub among : Contains (floors_listed begun turns) floor
+  pub high : stamp ≤ floor.stamp
+
+-- by one that reaches another of that stamp
+pub is-reached : (world : World) (number : ℕ) (operation : Operating) (begun : gets.Begun) (got_it : IsGot world.scene number operation begun) (turns : List gets.Turn) (start since : ℕ) (out : List ℕ)
+    (hearing : IsHearing world number operation begun got_it turns start since out) (other : Floor) → IsFloorHeard hearing.heard (Reaches other) → IsReached begun operation.past turns other.stamp
+is-reached world number operation begun got_it turns start since out hearing other (shown, has, floor, there, reaches) =
+    let is = hearing.listings shown has in
+    record {
+      listing = shown.listing;
+      floor = floor;
+      shown = is.told;
+      there = there;
+      among = in_flat (λ (one : ℕ × ListingModel). floors_in one.1) (gets.facts_in begun turns).lists (shown.device, shown.listing) floor is.among there;
+      high = ⊎_elim
+          (λ same. let stamps_are : floor.stamp ≡ other.stamp = ap (λ (one : Floor). one.stamp) same in omega (arith, stamps_are))
+          (λ above. ⊎_elim (λ less. omega (arith, less)) (λ level. omega (arith, level.0)) above)
+          reaches;
+    }
+
+-- the target of the round is not below it
+pub target-reached : (begun : gets.Begun) (past : List Step) (turns : List gets.Turn) (stamp other : ℕ) → IsReached begun past turns stamp → HasTarget begun turns (durable_at other) → stamp ≤ other
+target-reached begun past turns stamp other reached target =
+    let upto : other < reached.floor.stamp → ⊥ = λ above.
+    target.1 reached.floor (Contains-append_right (floors_before begun turns) (floors_listed begun turns) reached.floor reached.among) (inl above) in
+    omega (arith, upto, reached.high)
+
+-- ---- ends
+
+module _ (cluster : ClusterModel) (events : List Event) (world : World) (run : IsRun cluster events world) (number : ℕ) (operation : Operating) (there : numbered world.operations number ≡ Some operation) (begun : gets.Begun)
+    (get : IsGetOf operation.begun begun) (is : IsGot world.scene number operation begun) (stamp : ℕ) (reached : (last : LastRound begun operation.past) → IsReached begun operation.past last.turns stamp) where
+  -- where such a floor is listed in the last round, the end is not older
+  pub not-older : (end : GetEnd) → gets.IsEnd begun operation.past end → IsNotOlder stamp end
+  not-older Absent ended_so =
+      let absent = ends_absent begun operation.past is.valid is.run ended_so in
+      let high = reached absent.last in
+      absurd (Contains-none high.floor (subst (λ floors. Contains floors high.floor) (absent.none_shown high.listing high.shown) high.there))
+  not-older (Found other object sources) ended_so =
+      let put = found cluster events world number operation begun other object sources run there get ended_so in
+      target-reached begun operation.past put.last.turns stamp other (reached put.last) put.target
+  not-older (Buried other) ended_so =
+      let buried = ends_buried begun operation.past is.valid is.run other ended_so in
+      let high = reached buried.last in
+      let upto : other < high.floor.stamp → ⊥ = λ above. buried.greatest high.listing high.floor high.shown high.there (inl above) in
+      omega (arith, upto, high.high)
+  not-older (Unanswered misses) ended_so = tt
+  not-older (TooFew other have) ended_so = tt
+  not-older (Overtaken these) ended_so = tt

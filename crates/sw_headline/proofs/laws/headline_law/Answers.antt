@@ -1,0 +1,24 @@
+use Rattle.sw_alone.proofs.Ends.{alone_kept, alone_not_overtaken}
+use Rattle.sw_headline.proofs.Invariants.{invariant}
+use Rattle.sw_headline.proofs.NeverOlder.{never_older}
+use Rattle.sw_headline.proofs.Shows.{shows}
+use Rattle.sw_headline.proofs.StaysDeleted.{stays_deleted}
+use Rattle.sw_headline.proofs.laws.headline_law.Goals as goal
+
+pub returns-clause-invariant : goal.returns-clause-invariant
+returns-clause-invariant c = invariant
+
+pub returns-clause-never_older : goal.returns-clause-never_older
+returns-clause-never_older c = never_older
+
+pub returns-clause-shows : goal.returns-clause-shows
+returns-clause-shows c = shows
+
+pub returns-clause-stays_deleted : goal.returns-clause-stays_deleted
+returns-clause-stays_deleted c = stays_deleted
+
+pub returns-clause-alone : goal.returns-clause-alone
+returns-clause-alone c = λ cluster world number operation begun turns alone there get are alike. (
+  alone_kept cluster world number operation begun turns alone there get are alike,
+  λ events ends. alone_not_overtaken cluster world number operation begun events alone there get alike ends,
+)

@@ -1,0 +1,26 @@
+-- What holds of every world of a run.
+use Rattle.std.specs.Prelude.{ℕ, Contains}
+use Rattle.sw_ring.specs.Cluster.{ClusterModel}
+use Rattle.sw_message.specs.Learnt.{Booked, Marked}
+use Rattle.sw_scene.specs.Filed.{IsDiskFiled}
+use Rattle.sw_scene.specs.Scene.{Mail, disk_of, known_to}
+use Rattle.sw_scene.specs.Sound.{IsDrawn, MayBeMade}
+use Rattle.sw_core.specs.World.{World}
+use Rattle.sw_decided.specs.Decided.{KeepsStamps}
+use Rattle.sw_duties.specs.Counted.{CountsApart}
+use Rattle.sw_duties.specs.Duties.{KeepsDuties}
+
+pub record Invariant (cluster : ClusterModel) (world : World) : Type 0 where
+  -- each archive in the files of a device is that of a put, in the folder of its name's place, whatever its disk may hold
+  pub filed : (device : ℕ) → IsDiskFiled cluster (known_to world.scene).book (disk_of world.scene device)
+  -- each request is warranted by what is known, and each archive in a message or a reply is that of a put
+  pub made : (mail : Mail) → Contains world.scene.mail mail → MayBeMade cluster (known_to world.scene) mail
+  -- no stamp of a put or a delete is above the last that was drawn
+  pub booked : (booked : Booked) → Contains (known_to world.scene).book booked → IsDrawn world.scene.last booked.stamp
+  pub marked : (marked : Marked) → Contains (known_to world.scene).marks marked → IsDrawn world.scene.last marked.stamp
+  -- what is held, shown and sent is of puts and deletes that were started, and what is durable was decided before
+  pub stamps : KeepsStamps world.scene
+  -- what devices answered for they hold, or it went to its primary, or was lost
+  pub duties : KeepsDuties world.scene
+  -- what a put counts is apart
+  pub counted : CountsApart world

@@ -1,0 +1,3 @@
+pub mod Firsts
+pub mod Listings
+pub mod Steadiness
