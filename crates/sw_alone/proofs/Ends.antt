@@ -27,7 +27,7 @@ use Rattle.sw_alone.proofs.Shown.{Lists, Tells, one_listed}
 -- ---- alone
 
 -- its own events lead to the world
-all_lead : (number : ℕ) (before : World) (events : List Event) (after : World) → LeadsAlone number before events after → Lead before events after
+pub all_lead : (number : ℕ) (before : World) (events : List Event) (after : World) → LeadsAlone number before events after → Lead before events after
 all_lead number before [] after same = same
 all_lead number before (event ∷ events) after (own, between, goes, lead) = (between, goes, all_lead number between events after lead)
 

@@ -1,0 +1,4 @@
+pub mod Example
+pub mod Handing
+pub mod Hearing
+pub mod Storing

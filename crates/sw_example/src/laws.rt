@@ -1,0 +1,24 @@
+//! Laws of runs that there are, each the contract of a function without arguments.
+
+ghost use Rattle.std.specs.Prelude.{◌≡◌, ◌≤◌, ℕ, ◌+◌, Contains, [], ◌∷◌, length, Some};
+ghost use Rattle.sw_types.specs.Name.{NameModel};
+ghost use Rattle.sw_types.specs.Object.{ObjectModel};
+ghost use Rattle.sw_archive.specs.Put.{IsPut, put_archive};
+ghost use Rattle.sw_ring.specs.Cluster.{ClusterModel, KeepsRules, place_of_name};
+ghost use Rattle.sw_message.specs.Transcript.{Told};
+ghost use Rattle.sw_message.specs.Warrant.{IsPrimaryOf};
+ghost use Rattle.sw_message.specs.declared.reply.Reply.TheVariants as reply;
+ghost use Rattle.sw_scene.specs.Devices.{capacity_of};
+ghost use Rattle.sw_core.specs.Event.{Deliver, IsRun, Put, Start};
+ghost use Rattle.sw_core.specs.World.{Operating, World, first_clock, numbered};
+ghost use Rattle.sw_example.specs.Example.{stores_first};
+
+/// In every cluster that keeps the rules there is a run in which a put of any object starts, the primary of index 0, if it has room,
+/// stores its fragment, and its answer comes to the put: the events are the start, the delivery of the first message, and that of the
+/// first reply, which follows the k + m fragments.
+pub fn example_law()
+    ensures { (cluster : ClusterModel) (name : NameModel) (object : ObjectModel) (device : ℕ) → KeepsRules cluster → IsPut cluster.policy first_clock name object → IsPrimaryOf cluster (place_of_name cluster name) 0 device →
+        length (put_archive cluster.policy first_clock name object 0) ≤ capacity_of cluster device →
+        (world : World) × IsRun cluster (Start (Put name object) ∷ Deliver 1 ∷ Deliver (cluster.policy.k + cluster.policy.m + 1) ∷ []) world ×
+        ((operation : Operating) × (numbered world.operations 1 ≡ Some operation) × Contains operation.past (Told (stores_first cluster name object device) (Some reply.Synced))) }
+{}
