@@ -22,21 +22,12 @@ use Rattle.sw_core.specs.Sound.{IsSoundWorld}
 use Rattle.sw_core.specs.World.{Operating, World, empty_world, numbered}
 use Rattle.sw_core.proofs.Happening.{run-sound}
 use Rattle.sw_core.proofs.Numbered.{numbered-contains}
+use Rattle.sw_events.proofs.Leads.{run-more}
 use Rattle.sw_decided.specs.Decided.{KeepsStamps}
 use Rattle.sw_decided.proofs.Runs.{run_keeps}
 use Rattle.sw_alone.specs.Alone.{Delivers, GivesUp, IsOf, IsOwnEvent, LeadsAlone}
 use Rattle.sw_complete.specs.Complete.{IsDelivery}
 use Rattle.sw_complete.proofs.AnsweredWorlds.{IsFine, IsServed, goes_on, handled_serving, idles, scene_served}
-
--- ---- runs
-
-leads_more : (first : World) (events : List Event) (before : World) (event : Event) (after : World) → Lead first events before → Happens event before after → Lead first (events ++ event ∷ []) after
-leads_more first [] before event after same happens = (after, subst (λ (one : World). Happens event one after) same happens, refl)
-leads_more first (other ∷ events) before event after (between, earlier, lead) happens = (between, earlier, leads_more between events before event after lead happens)
-
--- a run goes on by an event
-pub run_more : (cluster : ClusterModel) (events : List Event) (before : World) (event : Event) (after : World) → IsRun cluster events before → Happens event before after → IsRun cluster (events ++ event ∷ []) after
-run_more cluster events before event after run happens = record { rules = run.rules; lead = leads_more (empty_world cluster) events before event after run.lead happens }
 
 -- ---- operations that run alone
 
@@ -100,5 +91,5 @@ module _ (of : ClusterModel) (cluster : ClusterModel) (number : ℕ) (begun : Be
         → IsSoundWorld of after × Served after
     leads_served before [] after earlier run is all same = subst (λ (one : World). IsSoundWorld of one × Served one) (sym same) (run-sound of earlier before run, is)
     leads_served before (event ∷ events) after earlier run is all (own, between, goes, lead) =
-        leads_served between events after (earlier ++ event ∷ []) (run_more of earlier before event between run goes)
+        leads_served between events after (earlier ++ event ∷ []) (run-more of earlier before event between run goes)
         (happens before (run-sound of earlier before run) (run_keeps of earlier before run) is event own (All-head IsDelivery event events all) between goes) (All-tail IsDelivery event events all) lead

@@ -14,8 +14,9 @@ use Rattle.sw_core.specs.Operating.{Begun, Delete as DeleteBegun}
 use Rattle.sw_core.specs.Sound.{IsSoundWorld}
 use Rattle.sw_core.specs.World.{Operating, Rests, World}
 use Rattle.sw_core.proofs.Happening.{run-sound}
+use Rattle.sw_events.proofs.Leads.{run-more}
 use Rattle.sw_complete.specs.Complete.{AreReady, RunsAlone}
-use Rattle.sw_complete.proofs.AnsweredRuns.{leads_served, run_more}
+use Rattle.sw_complete.proofs.AnsweredRuns.{leads_served}
 use Rattle.sw_complete.proofs.AnsweredWorlds.{begins_served}
 use Rattle.sw_complete.proofs.DeleteTranscripts.{end_deleted}
 use Rattle.sw_complete.proofs.DeleteWorlds.{Holds, Served, Serves, Serving, are_marked, delete_of, handles_delete, number, run_is}
@@ -46,7 +47,7 @@ module _ (of : ClusterModel) (old new : World) (name : NameModel) (operation : O
   ends : IsSoundWorld of new × Served old name new
   ends =
       leads_served of old.scene.cluster (number old name) (DeleteBegun (delete_of old name)) (stamp_in old) (Holds old name) (Serves old name) (handles_delete old name of) alone.started alone.own new
-      (alone.earlier ++ Start (Delete name) ∷ []) (run_more of alone.earlier old (Start (Delete name)) alone.started alone.run alone.starts) started alone.delivers alone.leads
+      (alone.earlier ++ Start (Delete name) ∷ []) (run-more of alone.earlier old (Start (Delete name)) alone.started alone.run alone.starts) started alone.delivers alone.leads
 
   same_operation : ends.1.operation ≡ operation
   same_operation = same_Some ends.1.operation operation (sym ends.1.there ∙ alone.there)

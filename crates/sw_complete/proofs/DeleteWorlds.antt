@@ -6,7 +6,7 @@ use Rattle.sw_ring.specs.Cluster.{ClusterModel, place_of_name}
 use Rattle.sw_message.specs.Learnt.{HasOwn}
 use Rattle.sw_message.specs.Step.{Folders}
 use Rattle.sw_message.specs.Table.{Allows, Found, Handling, HandlesDelete}
-use Rattle.sw_message.specs.Transcript.{IsRun, given}
+use Rattle.sw_message.specs.Transcript.{IsRun}
 use Rattle.sw_message.specs.declared.message.Msg.{Msg}
 use Rattle.sw_message.specs.declared.message.Msg.TheVariants as message
 use Rattle.sw_message.specs.declared.reply.Reply.{Reply}

@@ -14,8 +14,9 @@ use Rattle.sw_core.specs.Operating.{Begun, Put as PutBegun}
 use Rattle.sw_core.specs.Sound.{IsSoundWorld}
 use Rattle.sw_core.specs.World.{Operating, Rests, World}
 use Rattle.sw_core.proofs.Happening.{run-sound}
+use Rattle.sw_events.proofs.Leads.{run-more}
 use Rattle.sw_complete.specs.Complete.{AreReady, HaveRoom, RunsAlone}
-use Rattle.sw_complete.proofs.AnsweredRuns.{leads_served, run_more}
+use Rattle.sw_complete.proofs.AnsweredRuns.{leads_served}
 use Rattle.sw_complete.proofs.AnsweredWorlds.{begins_served}
 use Rattle.sw_complete.proofs.PutTranscripts.{done_created}
 use Rattle.sw_complete.proofs.PutWorlds.{Holds, Served, Serves, Serving, are_done, handles_put, number, put_of, run_is}
@@ -49,7 +50,7 @@ module _ (of : ClusterModel) (old new : World) (name : NameModel) (object : Obje
   ends =
       leads_served of old.scene.cluster (number old name object) (PutBegun (put_of old name object)) (stamp_in old) (Holds old name object) (Serves old name object)
       (handles_put old name object of old_sound alone.starts.1 room) alone.started alone.own new (alone.earlier ++ Start (Put name object) ∷ [])
-      (run_more of alone.earlier old (Start (Put name object)) alone.started alone.run alone.starts) started alone.delivers alone.leads
+      (run-more of alone.earlier old (Start (Put name object)) alone.started alone.run alone.starts) started alone.delivers alone.leads
 
   same_operation : ends.1.operation ≡ operation
   same_operation = same_Some ends.1.operation operation (sym ends.1.there ∙ alone.there)

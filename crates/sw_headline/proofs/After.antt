@@ -15,12 +15,13 @@ use Rattle.sw_core.specs.Event.{Event, IsRun}
 use Rattle.sw_core.specs.Sound.{IsSoundWorld, Stands}
 use Rattle.sw_core.specs.World.{Operating, World}
 use Rattle.sw_core.proofs.Happening.{run-sound}
+use Rattle.sw_events.proofs.Leads.{leads-append}
 use Rattle.sw_decided.specs.Decided.{KeepsStamps}
 use Rattle.sw_promise.specs.Promise.{KeepsPromises, WasMade}
 use Rattle.sw_promise.proofs.Runs.{run_keeps}
 use Rattle.sw_headline.specs.Headline.{EndsLater, IsOperation, LeadsOn}
 use Rattle.sw_headline.proofs.Gets.{IsGot, is-got, since-start}
-use Rattle.sw_headline.proofs.Growing.{leads-both, leads-on}
+use Rattle.sw_headline.proofs.Growing.{leads-on}
 use Rattle.sw_headline.proofs.Heard.{IsHearing, is-hearing}
 use Rattle.sw_decided.proofs.Runs.{run_keeps as stamps_hold}
 use Rattle.sw_headline.proofs.Handed.{in_whole}
@@ -32,7 +33,7 @@ module _ (cluster : ClusterModel) (old new : World) (leads : LeadsOn cluster old
 
   -- the run that they are
   pub whole_run : IsRun cluster all_events new
-  whole_run = record { rules = leads.run.rules; lead = leads-both _ old new leads.earlier leads.later leads.run.lead leads.lead }
+  whole_run = record { rules = leads.run.rules; lead = leads-append _ leads.earlier old leads.later new leads.run.lead leads.lead }
 
   -- both worlds are sound
   pub old_sound : IsSoundWorld cluster old

@@ -3,6 +3,7 @@ use Rattle.std.proofs.Common.{◌≡◌, ⊎_elim, ℕ, ◌+◌, List, [], ◌�
 use Rattle.sw_ring.specs.Cluster.{ClusterModel}
 use Rattle.sw_core.specs.Event as core
 use Rattle.sw_core.specs.World.{empty_world}
+use Rattle.sw_events.proofs.Leads.{leads-append}
 use Rattle.sw_headline.specs.Headline.{LeadsOn}
 use Rattle.sw_script.specs.Line.{event_of}
 use Rattle.sw_script.specs.declared.event.Event.{Event}
@@ -12,7 +13,7 @@ use Rattle.sw_world.specs.Doing.{DoesEvent, Done, event_fault}
 use Rattle.sw_play.specs.Promised.{ComesBefore}
 use Rattle.sw_play.specs.Story.{DoesOrSpends, Plays, PlaysEvent, PlaysLine, Stops}
 use Rattle.sw_play.specs.declared.playing.PlayEnd.{PlayEnd}
-use Rattle.sw_play.proofs.Leads.{leads-append, steps-lead}
+use Rattle.sw_play.proofs.Leads.{steps-lead}
 
 -- its lines are done, one after the other
 abbrev pub Does : (before : Scripted) → List Done → (after : Scripted) → Type 0

@@ -1,15 +1,17 @@
 -- Operations stay timely as another one begins.
-use Rattle.std.proofs.Common.{◌≡◌, ⊎_elim, ℕ, ◌+◌, Contains, List, [], ◌∷◌, ◌++◌, length, refl, sym, subst, arith}
+use Rattle.std.proofs.Common.{⊎_elim, ℕ, ◌+◌, Contains, List, [], ◌∷◌, ◌++◌, length, sym, subst, arith}
 use Rattle.sw_ring.specs.Cluster.{ClusterModel}
 use Rattle.sw_message.specs.declared.reply.Reply.{Reply}
 use Rattle.sw_message.specs.declared.sent.Sent.{Sent}
 use Rattle.sw_scene.specs.Scene.{Answer, Mail, Request, Scene}
-use Rattle.sw_scene.proofs.Growth.{Follows, books-follows, marks-follows, same-follows}
-use Rattle.sw_core.specs.Event.{Begins, Delete, Get, Head, Job, Put, Recon, Starts, begins, stamp_in}
+use Rattle.sw_scene.proofs.Growth.{Follows}
+use Rattle.sw_core.specs.Event.{Begins, begins}
 use Rattle.sw_core.specs.Operating.{Begun}
 use Rattle.sw_core.specs.Sound.{IsSoundWorld}
 use Rattle.sw_core.specs.World.{World}
 use Rattle.sw_core.proofs.Numbered.{pushed-cases}
+use Rattle.sw_events.specs.SceneMove.{Notes}
+use Rattle.sw_events.proofs.SceneMoves.{noted-follows, noted-mail}
 use Rattle.sw_timed.specs.Timed.{IsTimely}
 use Rattle.sw_timed.proofs.Going.{proceeds-timely}
 use Rattle.sw_timed.proofs.Later.{AreTimely, scene-timely}
@@ -25,10 +27,14 @@ module _ (cluster : ClusterModel) (world : World) (sound : IsSoundWorld cluster 
   no_answer : (at : ℕ) (sent : Sent) (reply : Reply) → Contains world.scene.mail (Answer at next sent reply) → ⊥
   no_answer at sent reply has = let asked = sound.scene.asked at next sent reply has in no_request asked.0 sent asked.2
 
-  module _ (begun : Begun) (scene : Scene) (follows : Follows world.scene scene) (same : scene.mail ≡ world.scene.mail) where
+  module _ (begun : Begun) (scene : Scene) (notes : Notes world.clock world.scene scene) where
+    follows : Follows world.scene scene
+    follows = noted-follows world.scene world.clock scene notes
+
     abbrev begun_world : World
     begun_world = record world { scene = scene; operations = world.operations ++ begins begun world ∷ [] }
 
+    -- it has no message
     begun-timely : IsTimely scene next (begins begun world)
     begun-timely = record {
       asked_at = λ ticket. ticket;
@@ -42,20 +48,13 @@ module _ (cluster : ClusterModel) (world : World) (sound : IsSoundWorld cluster 
         (λ new. subst (IsTimely scene number) new.1 (subst (λ (n : ℕ). IsTimely scene n (begins begun world)) (sym new.0) begun-timely))
         (pushed-cases world.operations (begins begun world) number operation is)
 
-    begins-timely : Begins begun scene world after → AreTimely after
+    -- and it goes on
+    pub begins-timely : Begins begun scene world after → AreTimely after
     begins-timely goes =
         proceeds-timely begun_world one_more next (begins begun world) []
         (record {
           requested = λ at sent has. absurd (no_request at sent (follows.requests at next sent has));
-          answered = λ at sent reply has. absurd (no_answer at sent reply (subst (λ (mail : List Mail). Contains mail (Answer at next sent reply)) same has));
+          answered = λ at sent reply has. absurd (no_answer at sent reply (subst (λ (mail : List Mail). Contains mail (Answer at next sent reply)) (noted-mail world.scene world.clock scene notes) has));
           timely = begun-timely;
         })
         after goes
-
-  -- a job is started
-  pub starts-timely : (job : Job) → Starts job world after → AreTimely after
-  starts-timely (Put name object) (left, put, goes) = begins-timely _ _ (books-follows world.scene (stamp_in world) name object) refl goes
-  starts-timely (Delete name) (left, goes) = begins-timely _ _ (marks-follows world.scene (stamp_in world) name) refl goes
-  starts-timely (Get name) goes = begins-timely _ _ (same-follows world.scene) refl goes
-  starts-timely (Head name) goes = begins-timely _ _ (same-follows world.scene) refl goes
-  starts-timely (Recon device name) (member, goes) = begins-timely _ _ (same-follows world.scene) refl goes

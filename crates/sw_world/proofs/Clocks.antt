@@ -3,12 +3,12 @@ use Rattle.std.proofs.Common.{◌≡◌, ◌≤◌, ℕ, [], ◌∷◌, ◌++◌
 use Rattle.sw_types.specs.Stamp.{greatest_stamp}
 use Rattle.sw_core.specs.Event as core
 use Rattle.sw_core.specs.Event.{idle}
+use Rattle.sw_events.proofs.Leads.{run-more}
 use Rattle.sw_told.specs.declared.told.Told.{Told}
 use Rattle.sw_script.specs.declared.event.Event.TheVariants as event
 use Rattle.sw_world.specs.Leading.{DoesIt}
 use Rattle.sw_world.specs.Scripted.{Scripted}
 use Rattle.sw_world.specs.Standing.{StandsFor, WorldModel}
-use Rattle.sw_world.proofs.Longer.{run-more}
 use Rattle.sw_world.proofs.OneEvents.{one-event}
 
 module _ (stamp : ℕ) (fits : stamp ≤ greatest_stamp) (old new : WorldModel) (new_is : new ≡ record old { clock = stamp }) (before : Scripted) (stands : StandsFor old before) where

@@ -16,7 +16,6 @@ pub mod Insides
 pub mod Leasts
 pub mod LetterMails
 pub mod Likeness
-pub mod Longer
 pub mod MadeLines
 pub mod Mails
 pub mod OneEvents

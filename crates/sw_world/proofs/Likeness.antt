@@ -10,13 +10,13 @@ use Rattle.sw_scene.specs.Scene.{Answer, DeviceState, Mail}
 use Rattle.sw_core.specs.Event.{Event, Happens, IsRun}
 use Rattle.sw_core.specs.Operating.{cluster_of}
 use Rattle.sw_core.specs.World as worlds
+use Rattle.sw_events.proofs.Leads.{run-more}
 use Rattle.sw_nodes.specs.Nodes.{devices_of}
 use Rattle.sw_told.specs.declared.end.EndLine.{EndLine}
 use Rattle.sw_world.specs.Leading.{LeadsByOne}
 use Rattle.sw_world.specs.Scripted.{Scripted, delivered_by}
 use Rattle.sw_world.specs.Standing.{IsClosed, IsDeviceOf, IsKeptOf, StandsFor, WorldModel}
 use Rattle.sw_world.specs.Unfolding.{TellsEnd, ended_from}
-use Rattle.sw_world.proofs.Longer.{run-more}
 use Rattle.sw_world.proofs.Posts.{IsPost}
 
 -- like it in all but the events that led to it, and the messages that its operations may yet be told

@@ -1,0 +1,4 @@
+pub mod Carried
+pub mod Happened
+pub mod Leads
+pub mod SceneMoves

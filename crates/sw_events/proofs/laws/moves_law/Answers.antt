@@ -1,0 +1,9 @@
+use Rattle.sw_events.proofs.Happened.{happens-moves}
+use Rattle.sw_events.proofs.SceneMoves.{scene-moves}
+use Rattle.sw_events.proofs.laws.moves_law.Goals as goal
+
+pub returns-clause-world : goal.returns-clause-world
+returns-clause-world c event before after goes = happens-moves before after event goes
+
+pub returns-clause-scene : goal.returns-clause-scene
+returns-clause-scene c event before after goes = scene-moves before after (happens-moves before after event goes)

@@ -1,0 +1,2 @@
+pub mod SceneMove
+pub mod WorldMove

@@ -1,0 +1,34 @@
+-- What one basic event may do to a scene.
+use Rattle.std.specs.Prelude.{◌≤◌, ℕ, Contains, List}
+use Rattle.sw_types.specs.Name.{NameModel}
+use Rattle.sw_types.specs.Object.{ObjectModel}
+use Rattle.sw_types.specs.Stamp.{greatest_stamp}
+use Rattle.sw_archive.specs.Put.{IsPut}
+use Rattle.sw_message.specs.declared.sent.Sent.{Sent}
+use Rattle.sw_scene.specs.Moves.{Crashes, CrashesMounting, Fails, Handles, Restarts, books, lost, marks, next_stamp, sends, stopped, ticked}
+use Rattle.sw_scene.specs.Scene.{Request, Scene}
+
+-- something happens to one device, or nothing but that time passes
+pub data DeviceMove (before : Scene) : Scene → Type 0 where
+  Passed : DeviceMove before (ticked before)
+  -- with a request that was made to it
+  Handled : (at operation : ℕ) (sent : Sent) → Contains before.mail (Request at operation sent) → (after : Scene) → Handles before operation sent after → DeviceMove before after
+  Failed : (at operation : ℕ) (sent : Sent) → Contains before.mail (Request at operation sent) → (after : Scene) → Fails before operation sent after → DeviceMove before after
+  Crashed : (at operation : ℕ) (sent : Sent) → Contains before.mail (Request at operation sent) → (after : Scene) → Crashes before sent after → DeviceMove before after
+  -- by itself
+  CrashedMounting : (device : ℕ) (after : Scene) → CrashesMounting before device after → DeviceMove before after
+  Stopped : (device : ℕ) → DeviceMove before (stopped device before)
+  Restarted : (device : ℕ) (after : Scene) → Restarts before device after → DeviceMove before after
+  Lost : (device : ℕ) → DeviceMove before (lost device before)
+
+-- What is noted as an operation begins: a put or a delete, with the stamp that it draws, or nothing.
+pub data Notes (clock : ℕ) (before : Scene) : Scene → Type 0 where
+  NotesNothing : Notes clock before before
+  NotesPut : (name : NameModel) (object : ObjectModel) → next_stamp clock before.last ≤ greatest_stamp → IsPut before.cluster.policy (next_stamp clock before.last) name object
+      → Notes clock before (books (next_stamp clock before.last) name object before)
+  NotesDelete : (name : NameModel) → next_stamp clock before.last ≤ greatest_stamp → Notes clock before (marks (next_stamp clock before.last) name before)
+
+-- Something happens to a device; or an operation makes requests, once what it begins with is noted.
+pub data SceneMove (clock : ℕ) (before : Scene) : Scene → Type 0 where
+  AtDevice : (after : Scene) → DeviceMove before after → SceneMove clock before after
+  Asked : (noted : Scene) → Notes clock before noted → (number : ℕ) (sents : List Sent) → SceneMove clock before (sends number sents noted)
