@@ -16,10 +16,10 @@ use Rattle.sw_scene.specs.Devices.{IsDeviceStep}
 use Rattle.sw_scene.specs.Disks.{Disk, IsFoundOn}
 use Rattle.sw_scene.specs.Moves.{Handles}
 use Rattle.sw_scene.specs.Scene.{Answer, Mail, Request, Scene, disk_of, is_up}
-use Rattle.sw_core.specs.Event.{Comes, Event, Happens, IsRun, IsTold, Lead, OnScene, Proceeds, idle, with_scene}
+use Rattle.sw_core.specs.Event.{Comes, Event, Happens, IsRun, IsTold, OnScene, Proceeds, idle, with_scene}
 use Rattle.sw_core.specs.Operating.{Begun}
 use Rattle.sw_core.specs.Sound.{IsSoundWorld}
-use Rattle.sw_core.specs.World.{Operating, World, empty_world, numbered}
+use Rattle.sw_core.specs.World.{Operating, World, numbered}
 use Rattle.sw_core.proofs.Happening.{run-sound}
 use Rattle.sw_core.proofs.Numbered.{numbered-contains}
 use Rattle.sw_events.proofs.Leads.{run-more}

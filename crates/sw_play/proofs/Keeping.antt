@@ -32,7 +32,7 @@ use Rattle.sw_play.proofs.Stories.{AreDone, Does, both_done}
 -- ---- ends
 
 -- the end that a line tells is that of its operation
-told_end : (before : Scripted) (done : Done) (operation : Operating) (how : OpEnd) → DoesEvent before done → TellsEndOf done operation how → IsEndOf operation.begun operation.past how
+pub told_end : (before : Scripted) (done : Done) (operation : Operating) (how : OpEnd) → DoesEvent before done → TellsEndOf done operation how → IsEndOf operation.begun operation.past how
 told_end before done operation how does tells =
     let (other, there, is) = ends_in before done.steps done.after done.told.ends does.steps does.tells.ends tells.line tells.told in
     let same : other ≡ operation = same_Some other operation (sym there ∙ tells.there) in

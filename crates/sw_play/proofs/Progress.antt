@@ -14,6 +14,7 @@ use Rattle.sw_script.specs.declared.fault.LineFault.{LineFault}
 use Rattle.sw_told.specs.Text.{told_text}
 use Rattle.sw_play.specs.Lines.{DoesLine, DoesOrBlank, StopsLine}
 use Rattle.sw_play.specs.Play.{Played}
+use Rattle.sw_play.specs.Short.{after_lines}
 use Rattle.sw_world.specs.Scripted.{Scripted}
 use Rattle.sw_world.specs.Standing.{StandsFor, WorldModel}
 use Rattle.sw_world.specs.Doing.{Done}
@@ -22,8 +23,10 @@ use Rattle.sw_play.specs.declared.playing.LineStop.TheVariants as stop
 use Rattle.sw_play.specs.declared.playing.PlayEnd.{PlayEnd}
 use Rattle.sw_play.specs.declared.playing.PlayEnd.TheVariants as ended
 use Rattle.sw_play.proofs.Founds.{tells_one_put}
+use Rattle.sw_play.proofs.Fulls.{ends_in_full}
 use Rattle.sw_play.proofs.Keeping.{keeps_word}
 use Rattle.sw_play.proofs.Stories.{plays_does}
+use Rattle.sw_play.proofs.StoryLines.{AllStoodFor, StoodFor, after_more, line_cases, no_line}
 
 -- some basic events led to a world
 abbrev IsOfRun : Scripted → Type 0
@@ -40,6 +43,9 @@ pub record Progress (before : Scripted) (left : WorldModel) (old new : List ℕ)
   pub found : (done : Done) → Contains story done → TellsOnePut done
   -- the first of it is a world of a run
   pub begins : IsOfRun before
+  -- worlds of the program stood for those of each line
+  pub after_is : after ≡ after_lines before story
+  pub stood : AllStoodFor before story
 
 -- nothing was done
 pub none_done : (before : Scripted) (left : WorldModel) (text : List ℕ) (all : List (List ℕ)) → StandsFor left before → Progress before left text text 0 all all
@@ -51,6 +57,8 @@ none_done before left text all stands = record {
   stands = stands;
   found = λ done has. absurd (Contains-none done has);
   begins = (stands.events, subst (λ (cluster : ClusterModel). IsRun cluster stands.events before.world) (sym stands.cluster_is) stands.run);
+  after_is = refl;
+  stood = λ at done line. absurd (no_line before at done line);
 }
 
 -- ---- one line more
@@ -77,6 +85,8 @@ module _ (before : Scripted) (middle left : WorldModel) (old between new : List 
     stands = stands;
     found = progress.found;
     begins = progress.begins;
+    after_is = progress.after_is;
+    stood = progress.stood;
   }
   event_done (Some event) is tells =
       let done : Done = record { event = event; steps = tells.does.steps; told = tells.told; after = tells.does.after } in
@@ -96,6 +106,14 @@ module _ (before : Scripted) (middle left : WorldModel) (old between new : List 
             (λ this. subst TellsOnePut this (tells_one_put left.cluster tells.does.stands.events progress.after done tells.does.does tells.does.stands.run))
             (Contains-push_cases progress.story done one has);
         begins = progress.begins;
+        after_is = sym (after_more before progress.story done);
+        stood = λ at one has. ⊎_elim
+            (λ earlier. progress.stood at one earlier)
+            (λ this.
+            subst (StoodFor at) this.1
+            (subst (λ (first : Scripted). StoodFor first done) (progress.after_is ∙ sym this.0)
+            (record { earlier = middle; stood = progress.stands; later = left; stands = tells.does.stands; does = tells.does.does })))
+            (line_cases before progress.story done at one has);
       }
 
   pub line_done : DoesLine progress.after line left between new → Progress before left old new (number + 1) lines all
@@ -145,6 +163,7 @@ module _ (before : Scripted) (middle : WorldModel) (old new : List ℕ) (number 
           found = progress.found;
           promised =
               keeps_word before.world.scene.cluster before progress.begins.0 progress.begins.1 progress.story progress.after (plays_does before 1 all progress.story end progress.after all_plays);
+          full = ends_in_full before progress.story progress.stood;
         };
         text = progress.text;
         stands = λ goes. subst (λ (world : WorldModel). StandsFor world progress.after) (sym (kept goes)) progress.stands;

@@ -1,4 +1,5 @@
 pub mod Lines
 pub mod Play
 pub mod Promised
+pub mod Short
 pub mod Story

@@ -5,6 +5,7 @@ use Rattle.sw_world.specs.Scripted.{Scripted}
 use Rattle.sw_world.specs.Standing.{StandsFor, WorldModel}
 use Rattle.sw_world.specs.Doing.{Done}
 use Rattle.sw_play.specs.Promised.{KeepsWord}
+use Rattle.sw_play.specs.Short.{EndsInFull}
 use Rattle.sw_play.specs.Story.{Plays, TellsOnePut, story_text}
 use Rattle.sw_play.specs.declared.playing.PlayEnd.{PlayEnd}
 use Rattle.sw_play.specs.declared.playing.PlayEnd.TheVariants as ended
@@ -14,7 +15,7 @@ abbrev pub greatest_script : ℕ
 greatest_script = 67108864
 
 -- A run of a script of these lines from a world: there is a story of it, this is its text, each object that was found in it is one put's,
--- and what is told to be acknowledged is kept.
+-- what is told to be acknowledged is kept, and operations that a line runs end in full.
 pub record IsRun (before : Scripted) (lines : List (List ℕ)) (end : PlayEnd) (text : List ℕ) : Type 0 where
   pub story : List Done
   pub after : Scripted
@@ -22,6 +23,7 @@ pub record IsRun (before : Scripted) (lines : List (List ℕ)) (end : PlayEnd) (
   pub text_is : text ≡ story_text story
   pub found : (done : Done) → Contains story done → TellsOnePut done
   pub promised : KeepsWord before.world.scene.cluster story
+  pub full : EndsInFull before story
 
 -- A world of the program that stood for one went through a run, whose text was added to what was told before.
 pub record Played (before : Scripted) (lines : List (List ℕ)) (end : PlayEnd) (left : WorldModel) (old new : List ℕ) : Type 0 where

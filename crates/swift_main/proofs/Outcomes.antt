@@ -37,6 +37,7 @@ stopped_run before lines end text run = record {
   text_is = run.text_is;
   found = run.found;
   promised = run.promised;
+  full = run.full;
 }
 
 -- the status of the end of a script

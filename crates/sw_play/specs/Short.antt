@@ -1,0 +1,64 @@
+-- How the lines end that run an operation to its end: with nothing else stepping.
+use Rattle.std.specs.Prelude.{◌≡◌, ◌+◌, Bool, true, List, [], ◌∷◌, ◌++◌, Contains, Some}
+use Rattle.sw_types.specs.Name.{NameModel}
+use Rattle.sw_types.specs.Object.{ObjectModel}
+use Rattle.sw_ring.specs.Cluster.{place_of_name}
+use Rattle.sw_delete.specs.Causes.{ToldExisted}
+use Rattle.sw_delete.specs.declared.end.DeleteEnd.TheVariants.{Deleted}
+use Rattle.sw_get.specs.declared.end.GetEnd.{GetEnd}
+use Rattle.sw_get.specs.declared.end.GetEnd.TheVariants.{Overtaken}
+use Rattle.sw_get.specs.declared.round_end.KeptEvent.{KeptEvent}
+use Rattle.sw_put.specs.declared.end.PutEnd.TheVariants.{Created}
+use Rattle.sw_core.specs.Event.{stamp_in}
+use Rattle.sw_core.specs.World.{Operating, numbered}
+use Rattle.sw_complete.specs.Complete.{AreReady, HasOwnPlace, HaveRoom}
+use Rattle.sw_complete.specs.Ends.{EndsByWhatIsThere}
+use Rattle.sw_script.specs.declared.event.Event.TheVariants as event
+use Rattle.sw_script.specs.declared.event.Job.{Job}
+use Rattle.sw_script.specs.declared.event.Job.TheVariants as job
+use Rattle.sw_told.specs.declared.end.EndLine.{EndLine}
+use Rattle.sw_told.specs.declared.end.OpEnd.{OpEnd}
+use Rattle.sw_told.specs.declared.end.OpEnd.TheVariants as end
+use Rattle.sw_world.specs.Doing.{Done}
+use Rattle.sw_world.specs.Scripted.{Scripted, count_of}
+use Rattle.sw_play.specs.Promised.{IsGetEnd}
+
+-- the world after some lines
+abbrev pub after_lines : Scripted → List Done → Scripted
+after_lines first [] = first
+after_lines first (done ∷ story) = after_lines done.after story
+
+-- a line of a story, and the world before it
+pub record IsLineOf (first : Scripted) (story : List Done) (before : Scripted) (done : Done) : Type 0 where
+  pub front : List Done
+  pub back : List Done
+  pub is : story ≡ front ++ done ∷ back
+  pub before_is : before ≡ after_lines first front
+
+-- A line runs a job to its end, which is told.
+pub record RunsJob (before : Scripted) (done : Done) (of : Job) (operation : Operating) (how : OpEnd) : Type 0 where
+  pub event_is : done.event ≡ event.Run of
+  pub line : EndLine
+  pub told : Contains done.told.ends line
+  pub number_is : line.operation ≡ count_of before + 1
+  pub there : numbered done.after.world.operations line.operation ≡ Some operation
+  pub end_is : line.end ≡ how
+
+-- it is a get of a name, or a head
+abbrev pub IsReading : NameModel → Job → Type 0
+IsReading name (job.Get other) = other ≡ name
+IsReading name (job.Head other) = other ≡ name
+IsReading name other = ⊥
+
+-- No get that a line runs is overtaken. Where all devices are up before the line, a put for which there is room is created with k + m
+-- commits, a delete is done with k + m marks, and a get of a name whose place no other name has ends by what devices have there.
+pub record EndsInFull (first : Scripted) (story : List Done) : Type 0 where
+  pub not_overtaken : (before : Scripted) (done : Done) (of : Job) (operation : Operating) (how : OpEnd) (events : List KeptEvent) → IsLineOf first story before done → RunsJob before done of operation how → IsGetEnd how (Overtaken events) → ⊥
+  pub created : (before : Scripted) (done : Done) (name : NameModel) (object : ObjectModel) (operation : Operating) (how : OpEnd) → IsLineOf first story before done → RunsJob before done (job.Put name object) operation how
+      → AreReady before.world.scene → HaveRoom before.world.scene (stamp_in before.world) name object
+      → how ≡ end.Put (Created (stamp_in before.world) (before.world.scene.cluster.policy.k + before.world.scene.cluster.policy.m))
+  pub deleted : (before : Scripted) (done : Done) (name : NameModel) (operation : Operating) (how : OpEnd) → IsLineOf first story before done → RunsJob before done (job.Delete name) operation how → AreReady before.world.scene
+      → (existed : Bool) × (how ≡ end.Delete (Deleted (stamp_in before.world) (before.world.scene.cluster.policy.k + before.world.scene.cluster.policy.m) existed))
+      × (existed ≡ true → ToldExisted operation.past) × (ToldExisted operation.past → existed ≡ true)
+  pub gets : (before : Scripted) (done : Done) (name : NameModel) (of : Job) (operation : Operating) (how : OpEnd) → IsLineOf first story before done → RunsJob before done of operation how → IsReading name of
+      → AreReady before.world.scene → HasOwnPlace before.world.scene name → (ending : GetEnd) × IsGetEnd how ending × EndsByWhatIsThere before.world.scene (place_of_name before.world.scene.cluster name) ending
