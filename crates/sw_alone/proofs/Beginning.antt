@@ -1,15 +1,14 @@
 -- A get that has just begun was shown nothing yet.
-use Rattle.std.proofs.Common.{⊎_elim, ℕ, ◌+◌, Contains, [], ◌∷◌, ◌++◌, length, refl, subst, arith}
+use Rattle.std.proofs.Common.{⊎_elim, ℕ, ◌+◌, [], ◌∷◌, ◌++◌, length, refl, subst, arith}
 use Rattle.sw_types.specs.Name.{NameModel}
 use Rattle.sw_ring.specs.Cluster.{ClusterModel}
-use Rattle.sw_message.specs.declared.sent.Sent.{Sent}
 use Rattle.sw_get.specs.Get as gets
-use Rattle.sw_scene.specs.Scene.{Request}
 use Rattle.sw_core.specs.Event.{Begins, Happens, Job, Start, begins}
 use Rattle.sw_core.specs.Operating.{Begun, Get as GetBegun, Head as HeadBegun, IsGetOf}
 use Rattle.sw_core.specs.Sound.{IsSoundWorld}
 use Rattle.sw_core.specs.World.{Operating, World}
 use Rattle.sw_core.proofs.Numbered.{numbered-within, pushed-cases, pushed-last}
+use Rattle.sw_events.proofs.Next.{no-answer, no-request}
 use Rattle.sw_alone.specs.Alone.{AGet, AHead, IsReading}
 use Rattle.sw_alone.proofs.Lone.{IsLone, proceeds}
 
@@ -24,10 +23,6 @@ module _ (cluster : ClusterModel) (world : World) (sound : IsSoundWorld cluster 
   abbrev get : gets.Begun
   get = get_in world name
 
-  -- its number is new
-  none_before : (at : ℕ) (sent : Sent) → Contains world.scene.mail (Request at next sent) → ⊥
-  none_before at sent has = absurd (omega (arith, sound.numbers at next sent has))
-
   -- an operation that is the get, or a head, begins
   begins_lone : (begun : Begun) → IsGetOf begun get → (after : World) → Begins begun world.scene world after → IsLone next get after
   begins_lone begun is after goes =
@@ -36,8 +31,8 @@ module _ (cluster : ClusterModel) (world : World) (sound : IsSoundWorld cluster 
             (λ old. absurd (omega (arith, numbered-within world.operations next operation old)))
             (λ new. subst (λ (one : Operating). IsGetOf one.begun get) new.1 is)
             (pushed-cases world.operations (begins begun world) next operation there);
-        requests = λ at sent has. absurd (none_before at sent has);
-        answers = λ at sent reply has. let asked = sound.scene.asked at next sent reply has in absurd (none_before asked.0 sent asked.2);
+        requests = λ at sent has. absurd (no-request cluster world sound at sent has);
+        answers = λ at sent reply has. absurd (no-answer cluster world sound at sent reply has);
       }) (begins begun world) (pushed-last world.operations (begins begun world)) [] after goes
 
   -- so it is once a get of the name was started, or a head

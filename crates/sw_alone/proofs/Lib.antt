@@ -1,5 +1,4 @@
 pub mod Beginning
-pub mod Disks
 pub mod Ends
 pub mod Events
 pub mod Gets

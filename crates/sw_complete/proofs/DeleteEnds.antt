@@ -1,5 +1,5 @@
 -- A delete that runs alone where all devices are ready ends as deleted with k + m marks.
-use Rattle.std.proofs.Common.{◌≡◌, ◌+◌, Bool, true, List, [], ◌∷◌, ◌++◌, Some, refl, sym, ap, subst, ◌∙◌, arith}
+use Rattle.std.proofs.Common.{◌≡◌, ◌+◌, Bool, true, List, [], ◌∷◌, ◌++◌, Some, refl, sym, ap, subst, ◌∙◌}
 use Rattle.std.proofs.lemmas.Option.{same_Some}
 use Rattle.sw_types.specs.Name.{NameModel}
 use Rattle.sw_ring.specs.Cluster.{ClusterModel}
@@ -15,6 +15,7 @@ use Rattle.sw_core.specs.Sound.{IsSoundWorld}
 use Rattle.sw_core.specs.World.{Operating, Rests, World}
 use Rattle.sw_core.proofs.Happening.{run-sound}
 use Rattle.sw_events.proofs.Leads.{run-more}
+use Rattle.sw_events.proofs.Next.{no-answer}
 use Rattle.sw_complete.specs.Complete.{AreReady, RunsAlone}
 use Rattle.sw_complete.proofs.AnsweredRuns.{leads_served}
 use Rattle.sw_complete.proofs.AnsweredWorlds.{begins_served}
@@ -34,9 +35,7 @@ module _ (of : ClusterModel) (old new : World) (name : NameModel) (operation : O
     same_cluster = refl;
     last = refl;
     disks = λ device member. let has = ready.sure device member in (has.0, has.1);
-    answers = λ at sent answer has.
-        let asked = old_sound.scene.asked at (number old name) sent answer has in
-        absurd (omega (arith, old_sound.numbers asked.0 (number old name) sent asked.2));
+    answers = λ at sent answer has. absurd (no-answer of old old_sound at sent answer has);
   }
 
   -- so it is as it starts

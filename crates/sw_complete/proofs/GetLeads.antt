@@ -29,9 +29,10 @@ use Rattle.sw_core.specs.Operating.{Begun, Get as GetBegun, Head as HeadBegun}
 use Rattle.sw_core.specs.Sound.{IsSoundWorld}
 use Rattle.sw_core.specs.World.{Operating, World, numbered}
 use Rattle.sw_core.proofs.Numbered.{numbered-contains, numbered-within, pushed-cases, replaced-cases}
+use Rattle.sw_events.proofs.Disks.{disk_here, disk_there}
+use Rattle.sw_events.proofs.Next.{no-answer}
 use Rattle.sw_alone.specs.Alone.{AGet, AHead, Delivers, GivesUp, IsOf, IsOwnEvent, IsReading, LeadsAlone}
 use Rattle.sw_alone.proofs.Beginning.{get_in}
-use Rattle.sw_alone.proofs.Disks.{disk_here, disk_there}
 use Rattle.sw_alone.proofs.Events.{leads_lone}
 use Rattle.sw_alone.proofs.Handed.{Reads}
 use Rattle.sw_alone.proofs.Lone.{IsLone}
@@ -199,9 +200,7 @@ module _ (cluster : ClusterModel) (old : World) (sound : IsSoundWorld cluster ol
       proceeds old ready sound.scene name next (record old { operations = old.operations ++ begins begun old ∷ [] }) (record {
         cluster = refl;
         disks = λ device folders sure. (folders, sure, refl);
-        answers = λ at sent given has.
-            let asked = sound.scene.asked at next sent given has in
-            absurd (omega (arith, sound.numbers asked.0 next sent asked.2));
+        answers = λ at sent given has. absurd (no-answer cluster old sound at sent given has);
         told = λ operation there. ⊎_elim
             (λ was. absurd (omega (arith, numbered-within old.operations next operation was)))
             (λ new. subst (λ (one : Operating). IsAnswered one.past) new.1 (λ sent has. Contains-none (Told sent None) has))

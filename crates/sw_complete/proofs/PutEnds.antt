@@ -1,5 +1,5 @@
 -- A put that runs alone where all devices are ready and have room ends as created with k + m commits.
-use Rattle.std.proofs.Common.{◌≡◌, inl, ◌+◌, Bool, true, [], ◌∷◌, ◌++◌, Some, refl, sym, ap, subst, ◌∙◌, arith}
+use Rattle.std.proofs.Common.{◌≡◌, inl, ◌+◌, Bool, true, [], ◌∷◌, ◌++◌, Some, refl, sym, ap, subst, ◌∙◌}
 use Rattle.std.proofs.lemmas.Option.{same_Some}
 use Rattle.sw_types.specs.Name.{NameModel}
 use Rattle.sw_types.specs.Object.{ObjectModel}
@@ -15,6 +15,7 @@ use Rattle.sw_core.specs.Sound.{IsSoundWorld}
 use Rattle.sw_core.specs.World.{Operating, Rests, World}
 use Rattle.sw_core.proofs.Happening.{run-sound}
 use Rattle.sw_events.proofs.Leads.{run-more}
+use Rattle.sw_events.proofs.Next.{no-answer}
 use Rattle.sw_complete.specs.Complete.{AreReady, HaveRoom, RunsAlone}
 use Rattle.sw_complete.proofs.AnsweredRuns.{leads_served}
 use Rattle.sw_complete.proofs.AnsweredWorlds.{begins_served}
@@ -35,9 +36,7 @@ module _ (of : ClusterModel) (old new : World) (name : NameModel) (object : Obje
     same_cluster = refl;
     last = refl;
     disks = λ device member. let has = ready.sure device member in ((has.0, has.1), inl refl);
-    answers = λ at sent answer has.
-        let asked = old_sound.scene.asked at (number old name object) sent answer has in
-        absurd (omega (arith, old_sound.numbers asked.0 (number old name object) sent asked.2));
+    answers = λ at sent answer has. absurd (no-answer of old old_sound at sent answer has);
   }
 
   -- so it is as it starts

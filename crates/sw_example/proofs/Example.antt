@@ -28,10 +28,11 @@ use Rattle.sw_core.specs.Event.{Comes, Deliver, Happens, IsRun, OnScene, Proceed
 use Rattle.sw_core.specs.Operating.{Put as PutBegun}
 use Rattle.sw_core.specs.World.{Operating, World, empty_world, first_clock, numbered}
 use Rattle.sw_core.proofs.Numbered.{pushed-last}
+use Rattle.sw_complete.proofs.PutDevices.{put_archive_is}
 use Rattle.sw_example.specs.Example.{stores_first}
 use Rattle.sw_example.proofs.Handing.{opened}
 use Rattle.sw_example.proofs.Hearing.{IsWaiting, first, handed_out, others, waiting}
-use Rattle.sw_example.proofs.Storing.{put_archive_is, stored_folders, stores_it}
+use Rattle.sw_example.proofs.Storing.{stored_folders, stores_it}
 
 -- ---- the worlds
 

@@ -1,10 +1,6 @@
 -- A device that has no file stores a fragment.
-use Rattle.std.proofs.Common.{inr, ℕ, ◌+◌, ◌<◌, ◌≤◌, true, cond, List, [], ◌∷◌, length, refl, ap, arith}
+use Rattle.std.proofs.Common.{inr, ℕ, ◌≤◌, true, cond, List, [], ◌∷◌, length, refl, ap, arith}
 use Rattle.std.proofs.lemmas.Option.{none-some}
-use Rattle.sw_types.specs.Name.{NameModel}
-use Rattle.sw_types.specs.Object.{ObjectModel}
-use Rattle.sw_archive.specs.Put.{IsPut, put_archive, put_fields}
-use Rattle.sw_archive.proofs.Archives.{put_is_archive}
 use Rattle.sw_disk.specs.Folder.{File, same_name}
 use Rattle.sw_disk.proofs.Images.{same_name-refl}
 use Rattle.sw_hashpath.specs.Place.{PlaceModel, folder_of}
@@ -15,22 +11,13 @@ use Rattle.sw_diskfile.specs.Calls.{store_calls}
 use Rattle.sw_diskfile.specs.Changes.{new_file}
 use Rattle.sw_diskfile.proofs.Directories.{other_name}
 use Rattle.sw_diskfile.proofs.Lists.{Contains-none}
-use Rattle.sw_ring.specs.Cluster.{ClusterModel, place_of_name}
+use Rattle.sw_ring.specs.Cluster.{ClusterModel}
 use Rattle.sw_message.specs.Spoil.{IsArchiveOf}
 use Rattle.sw_message.specs.Step.{Folders}
 use Rattle.sw_message.specs.Table.{Found, answers_after, plain_text}
 use Rattle.sw_message.specs.declared.message.Msg.TheVariants as message
 use Rattle.sw_message.specs.declared.reply.Reply.TheVariants as reply
 use Rattle.sw_scene.specs.Devices.{IsDeviceStep, IsFree, capacity_of, no_folders}
-
--- a put's archive is that of its place, stamp and index
-pub put_archive_is : (cluster : ClusterModel) (stamp : ℕ) (name : NameModel) (object : ObjectModel) (index : ℕ) → IsPut cluster.policy stamp name object → index < cluster.policy.k + cluster.policy.m
-    → IsArchiveOf cluster (place_of_name cluster name) stamp index (put_archive cluster.policy stamp name object index)
-put_archive_is cluster stamp name object index put below = record {
-  archive = put_fields cluster.policy stamp name object index;
-  spelled = put_is_archive cluster.policy stamp name object index put below;
-  asked = record { name = refl; stamp_is = refl; index_is = refl; code = (refl, refl, refl) };
-}
 
 -- one folder has one file, and no other folder has any
 abbrev pub only_file : (folder : List ℕ) → File → Folders

@@ -1,9 +1,7 @@
 -- What holds on the way of an operation holds once its job is started.
-use Rattle.std.proofs.Common.{◌≡◌, ℕ, ◌+◌, ◌≤◌, Bool, Contains, List, [], ◌∷◌, ◌++◌, length, None, Some, refl, sym, ap, subst, ◌∙◌, arith}
+use Rattle.std.proofs.Common.{◌≡◌, ℕ, ◌+◌, ◌≤◌, Bool, Contains, List, [], ◌∷◌, ◌++◌, length, None, Some, refl, sym, ap, subst, ◌∙◌}
 use Rattle.sw_ring.specs.Cluster.{ClusterModel, place_of_name}
 use Rattle.sw_message.specs.Message.{is_primary}
-use Rattle.sw_message.specs.declared.reply.Reply.{Reply}
-use Rattle.sw_message.specs.declared.sent.Sent.{Sent}
 use Rattle.sw_scene.specs.Moves.{books, marks}
 use Rattle.sw_scene.specs.Scene.{Answer, Mail, Request, Scene, is_up}
 use Rattle.sw_core.specs.Event.{Begins, Delete, Event, Get, Happens, Head, Job, Put, Recon, Start, Starts, begins, recon_of, stamp_in}
@@ -12,6 +10,7 @@ use Rattle.sw_core.specs.Sound.{IsSoundWorld}
 use Rattle.sw_core.specs.World.{World}
 use Rattle.sw_core.proofs.Happening.{leads-sound}
 use Rattle.sw_core.proofs.Numbered.{numbered-contains}
+use Rattle.sw_events.proofs.Next.{no-answer, no-request}
 use Rattle.sw_world.specs.Scripted.{IsStep, Scripted, Step, delivered_by}
 use Rattle.sw_world.proofs.Mails.{told-adds}
 use Rattle.sw_play.proofs.Answering.{IsAnswering, begins_so}
@@ -37,22 +36,15 @@ module _ (cluster : ClusterModel) (old : World) (sound : IsSoundWorld cluster ol
   abbrev up : ℕ → Bool
   up = is_up old.scene
 
-  -- no message of the next operation was made
-  no_request : (at : ℕ) (sent : Sent) → Contains old.scene.mail (Request at number sent) → ⊥
-  no_request at sent has = absurd (omega (arith, sound.numbers at number sent has))
-
-  no_answer : (at : ℕ) (sent : Sent) (reply : Reply) → Contains old.scene.mail (Answer at number sent reply) → ⊥
-  no_answer at sent reply has = let asked = sound.scene.asked at number sent reply has in no_request asked.0 sent asked.2
-
   -- it begins in a scene with the same devices and messages
   begins_handled : (begun : Begun) (scene : Scene) → scene.mail ≡ old.scene.mail → (after : World) → Begins begun scene old after → AreHandled number up after delivered
   begins_handled begun scene same_mail after goes =
       let world : World = record old { scene = scene; operations = old.operations ++ begins begun old ∷ [] } in
       still number up world after delivered (record {
         within = λ message has. subst (λ (mails : List Mail). message ≤ length mails) (sym same_mail) (within message has);
-        replied = λ message at sent is has is_up_now. absurd (no_request at sent (was (Request at number sent) (numbered-contains scene.mail message (Request at number sent) is)));
-        closed = λ message at sent reply is has. absurd (no_answer at sent reply (was (Answer at number sent reply) (numbered-contains scene.mail message (Answer at number sent reply) is)));
-      }) (told-adds number world after 0 None (Some (begins begun old)) goes) (λ at sent reply has closed. absurd (no_answer at sent reply (was (Answer at number sent reply) has)))
+        replied = λ message at sent is has is_up_now. absurd (no-request cluster old sound at sent (was (Request at number sent) (numbered-contains scene.mail message (Request at number sent) is)));
+        closed = λ message at sent reply is has. absurd (no-answer cluster old sound at sent reply (was (Answer at number sent reply) (numbered-contains scene.mail message (Answer at number sent reply) is)));
+      }) (told-adds number world after 0 None (Some (begins begun old)) goes) (λ at sent reply has closed. absurd (no-answer cluster old sound at sent reply (was (Answer at number sent reply) has)))
     where
       was : (mail : Mail) → Contains scene.mail mail → Contains old.scene.mail mail
       was mail has = subst (λ (mails : List Mail). Contains mails mail) same_mail has
@@ -61,7 +53,7 @@ module _ (cluster : ClusterModel) (old : World) (sound : IsSoundWorld cluster ol
   Begun_so begun after = IsAnswering number begun up after × AreHandled number up after delivered
 
   begins_it : (begun : Begun) (scene : Scene) → ((device : ℕ) → is_up scene device ≡ is_up old.scene device) → scene.mail ≡ old.scene.mail → (after : World) → Begins begun scene old after → Begun_so begun after
-  begins_it begun scene same_up same_mail after goes = (begins_so number begun up old refl (λ device. refl) no_answer scene same_up same_mail after goes, begins_handled begun scene same_mail after goes)
+  begins_it begun scene same_up same_mail after goes = (begins_so number begun up old refl (λ device. refl) (no-answer cluster old sound) scene same_up same_mail after goes, begins_handled begun scene same_mail after goes)
 
   starts : (job : Job) (after : World) → Starts job old after → Begun_so (begun_by old job) after
   starts (Put name object) after (left, put, goes) = begins_it (begun_by old (Put name object)) (books (stamp_in old) name object old.scene) (λ device. refl) refl after goes

@@ -1,15 +1,14 @@
 -- Operations stay timely as another one begins.
-use Rattle.std.proofs.Common.{⊎_elim, ℕ, ◌+◌, Contains, List, [], ◌∷◌, ◌++◌, length, sym, subst, arith}
+use Rattle.std.proofs.Common.{⊎_elim, ℕ, ◌+◌, Contains, List, [], ◌∷◌, ◌++◌, length, sym, subst}
 use Rattle.sw_ring.specs.Cluster.{ClusterModel}
-use Rattle.sw_message.specs.declared.reply.Reply.{Reply}
-use Rattle.sw_message.specs.declared.sent.Sent.{Sent}
-use Rattle.sw_scene.specs.Scene.{Answer, Mail, Request, Scene}
+use Rattle.sw_scene.specs.Scene.{Answer, Mail, Scene}
 use Rattle.sw_scene.proofs.Growth.{Follows}
 use Rattle.sw_core.specs.Event.{Begins, begins}
 use Rattle.sw_core.specs.Operating.{Begun}
 use Rattle.sw_core.specs.Sound.{IsSoundWorld}
 use Rattle.sw_core.specs.World.{World}
 use Rattle.sw_core.proofs.Numbered.{pushed-cases}
+use Rattle.sw_events.proofs.Next.{no-answer, no-request}
 use Rattle.sw_events.specs.SceneMove.{Notes}
 use Rattle.sw_events.proofs.SceneMoves.{noted-follows, noted-mail}
 use Rattle.sw_timed.specs.Timed.{IsTimely}
@@ -19,13 +18,6 @@ use Rattle.sw_timed.proofs.Later.{AreTimely, scene-timely}
 module _ (cluster : ClusterModel) (world : World) (sound : IsSoundWorld cluster world) (timely : AreTimely world) (after : World) where
   abbrev next : ℕ
   next = length world.operations + 1
-
-  -- no message of its number was made yet
-  no_request : (at : ℕ) (sent : Sent) → Contains world.scene.mail (Request at next sent) → ⊥
-  no_request at sent has = omega (arith, sound.numbers at next sent has)
-
-  no_answer : (at : ℕ) (sent : Sent) (reply : Reply) → Contains world.scene.mail (Answer at next sent reply) → ⊥
-  no_answer at sent reply has = let asked = sound.scene.asked at next sent reply has in no_request asked.0 sent asked.2
 
   module _ (begun : Begun) (scene : Scene) (notes : Notes world.clock world.scene scene) where
     follows : Follows world.scene scene
@@ -38,7 +30,7 @@ module _ (cluster : ClusterModel) (world : World) (sound : IsSoundWorld cluster 
     begun-timely : IsTimely scene next (begins begun world)
     begun-timely = record {
       asked_at = λ ticket. ticket;
-      requests = λ at sent has. absurd (no_request at sent (follows.requests at next sent has));
+      requests = λ at sent has. absurd (no-request cluster world sound at sent (follows.requests at next sent has));
       timed = tt;
     }
 
@@ -53,8 +45,8 @@ module _ (cluster : ClusterModel) (world : World) (sound : IsSoundWorld cluster 
     begins-timely goes =
         proceeds-timely begun_world one_more next (begins begun world) []
         (record {
-          requested = λ at sent has. absurd (no_request at sent (follows.requests at next sent has));
-          answered = λ at sent reply has. absurd (no_answer at sent reply (subst (λ (mail : List Mail). Contains mail (Answer at next sent reply)) (noted-mail world.scene world.clock scene notes) has));
+          requested = λ at sent has. absurd (no-request cluster world sound at sent (follows.requests at next sent has));
+          answered = λ at sent reply has. absurd (no-answer cluster world sound at sent reply (subst (λ (mail : List Mail). Contains mail (Answer at next sent reply)) (noted-mail world.scene world.clock scene notes) has));
           timely = begun-timely;
         })
         after goes
