@@ -56,11 +56,11 @@ module _ (before after : Scene) (new : Draw) (above : (one : Draw) → Contains 
 
 -- the draw of a put
 abbrev pub put_draw : StartedPut → Draw
-put_draw put = record { stamp = put.booked.stamp; start = put.start; is_delete = false }
+put_draw put = record { stamp = put.booked.stamp; start = put.start; name = put.booked.name; is_delete = false }
 
 -- the draw of a delete
 abbrev pub delete_draw : StartedDelete → Draw
-delete_draw delete = record { stamp = delete.marked.stamp; start = delete.start; is_delete = true }
+delete_draw delete = record { stamp = delete.marked.stamp; start = delete.start; name = delete.marked.name; is_delete = true }
 
 module _ (scene : Scene) where
   -- that of each put is among them

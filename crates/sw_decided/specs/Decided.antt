@@ -2,6 +2,7 @@
 -- started before; what is durable was decided before; and stamps rise in the order of their starts.
 use Rattle.std.specs.Prelude.{◌≡◌, ◌≢◌, ◌≤◌, ◌<◌, ℕ, Bool, true, false, List, ◌++◌, Contains, length, map, Some, ⊤}
 use Rattle.std.specs.List.{All, AllPairs}
+use Rattle.sw_types.specs.Name.{NameModel}
 use Rattle.sw_disk.specs.Answers.{names_of}
 use Rattle.sw_hashdir.specs.Listing.{ListingModel}
 use Rattle.sw_hashdir.specs.declared.entry.Entry.{Entry}
@@ -99,15 +100,16 @@ IsMessageBy scene by other = ⊤
 
 -- ---- stamps
 
--- a stamp that was drawn, at a step, for a put or a delete
+-- a stamp that was drawn, at a step, for a put or a delete of a name
 pub record Draw : Type 0 where
   pub stamp : ℕ
   pub start : ℕ
+  pub name : NameModel
   pub is_delete : Bool
 
 abbrev pub draws_of : Scene → List Draw
-draws_of scene = map (λ (put : StartedPut). record { stamp = put.booked.stamp; start = put.start; is_delete = false }) scene.book
-    ++ map (λ (delete : StartedDelete). record { stamp = delete.marked.stamp; start = delete.start; is_delete = true }) scene.marks
+draws_of scene = map (λ (put : StartedPut). record { stamp = put.booked.stamp; start = put.start; name = put.booked.name; is_delete = false }) scene.book
+    ++ map (λ (delete : StartedDelete). record { stamp = delete.marked.stamp; start = delete.start; name = delete.marked.name; is_delete = true }) scene.marks
 
 -- Of two draws the one with the smaller stamp came earlier, draws of one stamp are one, and each was before now.
 pub record Rise (scene : Scene) : Type 0 where

@@ -11,12 +11,15 @@ use Rattle.sw_decided.proofs.Runs.{run_keeps as run_stamps}
 use Rattle.sw_duties.proofs.Apart.{counts_apart}
 use Rattle.sw_duties.proofs.Kept.{duties_kept}
 use Rattle.sw_headline.specs.Invariant.{Invariant}
+use Rattle.sw_headline.proofs.Places.{of_places}
 
 pub invariant : (cluster : ClusterModel) (events : List Event) (world : World) → IsRun cluster events world → Invariant cluster world
 invariant cluster events world run =
     let sound = run-sound cluster events world run in
     record {
+      sound = sound;
       filed = λ device. subst (λ (one : ClusterModel). IsDiskFiled one (known_to world.scene).book (disk_of world.scene device)) sound.same_cluster (sound.scene.filed device);
+      of_places = of_places cluster events world run;
       made = λ mail has. subst (λ (one : ClusterModel). MayBeMade one (known_to world.scene) mail) sound.same_cluster (sound.scene.mail mail has);
       booked = sound.scene.booked;
       marked = sound.scene.marked;

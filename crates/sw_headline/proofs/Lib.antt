@@ -10,6 +10,7 @@ pub mod LastRound
 pub mod Level
 pub mod NeverOlder
 pub mod Openings
+pub mod Places
 pub mod Reached
 pub mod Rounds
 pub mod Shows

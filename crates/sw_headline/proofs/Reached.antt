@@ -12,7 +12,7 @@ use Rattle.sw_get.specs.Causes.{HasTarget, IsShown, LastRound, floors_before, fl
 use Rattle.sw_get.specs.Get as gets
 use Rattle.sw_get.specs.declared.end.GetEnd.{GetEnd}
 use Rattle.sw_get.specs.declared.end.GetEnd.TheVariants.{Absent, Buried, Found, Overtaken, TooFew, Unanswered}
-use Rattle.sw_get.proofs.Ends.{ends_absent, ends_buried}
+use Rattle.sw_get.proofs.Ends.{ends_absent, ends_buried, ends_too_few}
 use Rattle.sw_core.specs.Event.{Event, IsRun}
 use Rattle.sw_core.specs.Operating.{IsGetOf}
 use Rattle.sw_core.specs.World.{Operating, World, numbered}
@@ -74,5 +74,7 @@ module _ (cluster : ClusterModel) (events : List Event) (world : World) (run : I
       let upto : other < high.floor.stamp → ⊥ = λ above. buried.greatest high.listing high.floor high.shown high.there (inl above) in
       omega (arith, upto, high.high)
   not-older (Unanswered misses) ended_so = tt
-  not-older (TooFew other have) ended_so = tt
+  not-older (TooFew other have) ended_so =
+      let few = ends_too_few begun operation.past is.valid is.run other have ended_so in
+      target-reached begun operation.past few.last.turns stamp other (reached few.last) few.level.target
   not-older (Overtaken these) ended_so = tt

@@ -7,7 +7,7 @@ use Rattle.sw_get.specs.Causes.{AreWanting, IsBuried, IsLevel, LastRound, Leaves
 use Rattle.sw_get.specs.Get as gets
 use Rattle.sw_get.specs.declared.end.GetEnd.{GetEnd}
 use Rattle.sw_get.specs.declared.end.GetEnd.TheVariants.{Absent, Buried, Found, Overtaken, TooFew, Unanswered}
-use Rattle.sw_get.proofs.Ends.{ends_buried, ends_too_few, ends_unanswered}
+use Rattle.sw_get.proofs.Ends.{ends_buried, ends_overtaken, ends_too_few, ends_unanswered}
 use Rattle.sw_get.proofs.Shown.{shown_among}
 use Rattle.sw_scene.specs.Scene.{StartedPut}
 use Rattle.sw_headline.specs.Ends.{IsNotOlder, IsOvertaken, Shows}
@@ -71,7 +71,7 @@ module _ (cluster : ClusterModel) (stamp commits : ℕ) (out : List ℕ) (end : 
       (cases_eq stamp other))
   by-end (Unanswered misses) ended older = let cause = ends_unanswered begun is.ends.operation.past get.valid get.run misses ended in absurd (never-unanswered cause.last cause.why)
   by-end (TooFew other have) ended older = let cause = ends_too_few begun is.ends.operation.past get.valid get.run other have ended in absurd (never-wanting cause.last other cause.level (inl cause.short))
-  by-end (Overtaken events) ended older = inr tt
+  by-end (Overtaken events) ended older = inr (ends_overtaken begun is.ends.operation.past get.valid get.run events ended).count
 
 -- with fewer devices out than commits, and at most q - k
 pub shows : (cluster : ClusterModel) → ShowsOrOvertaken cluster

@@ -1,5 +1,5 @@
 -- What the end of a get tells of a stamp.
-use Rattle.std.specs.Prelude.{◌≤◌, ◌<◌, ℕ, ⊤}
+use Rattle.std.specs.Prelude.{◌≡◌, ◌≤◌, ◌<◌, ℕ, length, ⊤}
 use Rattle.sw_get.specs.declared.end.GetEnd.{GetEnd}
 use Rattle.sw_get.specs.declared.end.GetEnd.TheVariants.{Absent, Buried, Found, Overtaken, TooFew, Unanswered}
 
@@ -18,10 +18,10 @@ IsNotOlder stamp Absent = ⊥
 IsNotOlder stamp (Found other object sources) = stamp ≤ other
 IsNotOlder stamp (Buried other) = stamp ≤ other
 IsNotOlder stamp (Unanswered misses) = ⊤
-IsNotOlder stamp (TooFew other have) = ⊤
+IsNotOlder stamp (TooFew other have) = stamp ≤ other
 IsNotOlder stamp (Overtaken events) = ⊤
 
 -- the get was overtaken
 abbrev pub IsOvertaken : GetEnd → Type 0
-IsOvertaken (Overtaken events) = ⊤
+IsOvertaken (Overtaken events) = length events ≡ 8
 IsOvertaken end = ⊥

@@ -1,18 +1,29 @@
 -- What holds of every world of a run.
-use Rattle.std.specs.Prelude.{ℕ, Contains}
+use Rattle.std.specs.Prelude.{◌≡◌, ℕ, List, [], Contains}
 use Rattle.sw_ring.specs.Cluster.{ClusterModel}
 use Rattle.sw_message.specs.Learnt.{Booked, Marked}
+use Rattle.sw_message.specs.Step.{Folders}
+use Rattle.sw_scene.specs.Disks.{IsOfNoPlace, IsSide}
 use Rattle.sw_scene.specs.Filed.{IsDiskFiled}
 use Rattle.sw_scene.specs.Scene.{Mail, disk_of, known_to}
 use Rattle.sw_scene.specs.Sound.{IsDrawn, MayBeMade}
+use Rattle.sw_core.specs.Sound.{IsSoundWorld}
 use Rattle.sw_core.specs.World.{World}
 use Rattle.sw_decided.specs.Decided.{KeepsStamps}
 use Rattle.sw_duties.specs.Counted.{CountsApart}
 use Rattle.sw_duties.specs.Duties.{KeepsDuties}
 
+-- only the folders of the cluster's places have files
+abbrev pub AreOfPlaces : ClusterModel → Folders → Type 0
+AreOfPlaces cluster folders = (name : List ℕ) → IsOfNoPlace cluster name → folders name ≡ []
+
 pub record Invariant (cluster : ClusterModel) (world : World) : Type 0 where
+  -- each operation's transcript is a run of its machine, no two puts have one stamp, and each reply answers an earlier request
+  pub sound : IsSoundWorld cluster world
   -- each archive in the files of a device is that of a put, in the folder of its name's place, whatever its disk may hold
   pub filed : (device : ℕ) → IsDiskFiled cluster (known_to world.scene).book (disk_of world.scene device)
+  -- and no other folder has a file
+  pub of_places : (device : ℕ) (side : Folders) → IsSide (disk_of world.scene device) side → AreOfPlaces cluster side
   -- each request is warranted by what is known, and each archive in a message or a reply is that of a put
   pub made : (mail : Mail) → Contains world.scene.mail mail → MayBeMade cluster (known_to world.scene) mail
   -- no stamp of a put or a delete is above the last that was drawn

@@ -26,7 +26,8 @@ use Rattle.sw_core.proofs.Happening.{run-sound}
 use Rattle.sw_operation.specs.Ends.{IsEndOf}
 use Rattle.sw_alone.specs.Alone.{AGet, AHead, IsAlone}
 use Rattle.sw_alone.specs.Alone as alone
-use Rattle.sw_alone.proofs.Ends.{alone_not_overtaken}
+use Rattle.sw_steady.specs.Steady.{kept_events}
+use Rattle.sw_alone.proofs.Ends.{alone_kept, alone_not_overtaken}
 use Rattle.sw_complete.specs.Complete.{AreReady, HasOwnPlace, HaveRoom, RunsAlone}
 use Rattle.sw_complete.specs.Ends.{EndsByWhatIsThere}
 use Rattle.sw_complete.proofs.DeleteEnds.{delete_deleted}
@@ -43,9 +44,9 @@ use Rattle.sw_world.specs.Standing.{IsLetterOf}
 use Rattle.sw_world.specs.Unfolding.{Unfolds, job_of}
 use Rattle.sw_world.proofs.Places.{zip-length}
 use Rattle.sw_play.specs.Promised.{IsGetEnd}
-use Rattle.sw_play.specs.Short.{EndsInFull, IsReading, RunsJob}
+use Rattle.sw_play.specs.Short.{EndsInFull, IsReading, RunsJob, TellsLoneGet}
 use Rattle.sw_play.proofs.GetEnds.{get_told, reads, told_get}
-use Rattle.sw_play.proofs.Keeping.{told_end}
+use Rattle.sw_play.proofs.Keeping.{get_end, told_end}
 use Rattle.sw_play.proofs.OwnRuns.{AllUp}
 use Rattle.sw_play.proofs.OwnStarts.{begun_by, next_number}
 use Rattle.sw_play.proofs.RunLines.{RanAlone, begun_so, misses_alike, ran_alone}
@@ -125,6 +126,17 @@ module _ (before : Scripted) (done : Done) (line : StoodFor before done) (of : J
       alone_not_overtaken cluster done.after.world number operation get events alone there (subst (λ (one : Begun). IsGetOf one get) (sym begun_is) get_of)
       (misses_alike cluster number begun (is_up before.world.scene) done.after ran.on_way operation there get) get_ended
 
+-- ---- a get beside which nothing steps
+
+module _ (before : Scripted) (done : Done) (line : StoodFor before done) (operation : Operating) (how : OpEnd) (get : gets.Begun) (lone : TellsLoneGet before done operation how get) where
+  kept : (turns : List gets.Turn) → gets.AreTurns get operation.past turns → length (kept_events get turns) ≤ 1
+  kept turns are = alone_kept before.world.scene.cluster done.after.world lone.tells.line.operation operation get turns lone.alone lone.tells.there lone.begun_is are lone.alike
+
+  lone_overtaken : (events : List KeptEvent) → IsGetEnd how (Overtaken events) → ⊥
+  lone_overtaken events is =
+      alone_not_overtaken before.world.scene.cluster done.after.world lone.tells.line.operation operation get events lone.alone lone.tells.there lone.begun_is lone.alike
+      (get_end operation.begun operation.past get how (Overtaken events) lone.begun_is is (told_end before done operation how line.does lone.tells))
+
 -- ---- a put and a delete
 
 -- the end that is told is that of the put
@@ -201,6 +213,8 @@ module _ (before : Scripted) (done : Done) (line : StoodFor before done) (operat
 module _ (first : Scripted) (story : List Done) (stood : AllStoodFor first story) where
   pub ends_in_full : EndsInFull first story
   ends_in_full = record {
+    kept = λ before done operation how begun turns line lone are. kept before done (stood before done line) operation how begun lone turns are;
+    lone = λ before done operation how begun events line lone is. lone_overtaken before done (stood before done line) operation how begun lone events is;
     not_overtaken = λ before done of operation how events line runs is. overtaken before done (stood before done line) of operation how runs events is;
     created = λ before done name object operation how line runs ready room. created before done (stood before done line) name operation how ready object runs room;
     deleted = λ before done name operation how line runs ready. deleted before done (stood before done line) name operation how ready runs;

@@ -39,7 +39,7 @@ told_end before done operation how does tells =
     subst (λ (one : Operating). IsEndOf one.begun one.past how) same (subst (IsEndOf other.begun other.past) tells.end_is is)
 
 -- the end of a get, or of a head
-get_end : (begun : Begun) (past : List transcript.Step) (other : gets.Begun) (told : OpEnd) (how : GetEnd) → IsGetOf begun other → IsGetEnd told how → IsEndOf begun past told → gets.IsEnd other past how
+pub get_end : (begun : Begun) (past : List transcript.Step) (other : gets.Begun) (told : OpEnd) (how : GetEnd) → IsGetOf begun other → IsGetEnd told how → IsEndOf begun past told → gets.IsEnd other past how
 get_end (Get begun) past other (end.Get one) how same is ended = subst (λ (it : gets.Begun). gets.IsEnd it past how) same (subst (gets.IsEnd begun past) is ended)
 get_end (Get begun) past other (end.Head one) how same is ended = absurd ended
 get_end (Get begun) past other told how same none ended = absurd none

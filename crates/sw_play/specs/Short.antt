@@ -1,16 +1,20 @@
 -- How the lines end that run an operation to its end: with nothing else stepping.
-use Rattle.std.specs.Prelude.{◌≡◌, ◌+◌, Bool, true, List, [], ◌∷◌, ◌++◌, Contains, Some}
+use Rattle.std.specs.Prelude.{◌≡◌, ◌≤◌, ◌+◌, Bool, true, List, [], ◌∷◌, ◌++◌, Contains, length, Some}
 use Rattle.sw_types.specs.Name.{NameModel}
 use Rattle.sw_types.specs.Object.{ObjectModel}
 use Rattle.sw_ring.specs.Cluster.{place_of_name}
 use Rattle.sw_delete.specs.Causes.{ToldExisted}
 use Rattle.sw_delete.specs.declared.end.DeleteEnd.TheVariants.{Deleted}
+use Rattle.sw_get.specs.Get as gets
 use Rattle.sw_get.specs.declared.end.GetEnd.{GetEnd}
 use Rattle.sw_get.specs.declared.end.GetEnd.TheVariants.{Overtaken}
 use Rattle.sw_get.specs.declared.round_end.KeptEvent.{KeptEvent}
 use Rattle.sw_put.specs.declared.end.PutEnd.TheVariants.{Created}
 use Rattle.sw_core.specs.Event.{stamp_in}
+use Rattle.sw_core.specs.Operating.{IsGetOf}
 use Rattle.sw_core.specs.World.{Operating, numbered}
+use Rattle.sw_steady.specs.Steady.{MissesAlike, kept_events}
+use Rattle.sw_alone.specs.Alone.{IsAlone}
 use Rattle.sw_complete.specs.Complete.{AreReady, HasOwnPlace, HaveRoom}
 use Rattle.sw_complete.specs.Ends.{EndsByWhatIsThere}
 use Rattle.sw_script.specs.declared.event.Event.TheVariants as event
@@ -21,7 +25,7 @@ use Rattle.sw_told.specs.declared.end.OpEnd.{OpEnd}
 use Rattle.sw_told.specs.declared.end.OpEnd.TheVariants as end
 use Rattle.sw_world.specs.Doing.{Done}
 use Rattle.sw_world.specs.Scripted.{Scripted, count_of}
-use Rattle.sw_play.specs.Promised.{IsGetEnd}
+use Rattle.sw_play.specs.Promised.{IsGetEnd, TellsEndOf}
 
 -- the world after some lines
 abbrev pub after_lines : Scripted → List Done → Scripted
@@ -44,15 +48,26 @@ pub record RunsJob (before : Scripted) (done : Done) (of : Job) (operation : Ope
   pub there : numbered done.after.world.operations line.operation ≡ Some operation
   pub end_is : line.end ≡ how
 
+-- A line tells the end of a get, or a head, beside which nothing steps; and each device that misses a question of it misses all.
+pub record TellsLoneGet (before : Scripted) (done : Done) (operation : Operating) (how : OpEnd) (begun : gets.Begun) : Type 0 where
+  pub tells : TellsEndOf done operation how
+  pub begun_is : IsGetOf operation.begun begun
+  pub alone : IsAlone before.world.scene.cluster done.after.world tells.line.operation
+  pub alike : MissesAlike begun operation.past
+
 -- it is a get of a name, or a head
 abbrev pub IsReading : NameModel → Job → Type 0
 IsReading name (job.Get other) = other ≡ name
 IsReading name (job.Head other) = other ≡ name
 IsReading name other = ⊥
 
--- No get that a line runs is overtaken. Where all devices are up before the line, a put for which there is room is created with k + m
+-- A get beside which nothing steps keeps one round at most as an event and is not overtaken, and no get that a line runs is. Where all devices are up before the line, a put for which there is room is created with k + m
 -- commits, a delete is done with k + m marks, and a get of a name whose place no other name has ends by what devices have there.
 pub record EndsInFull (first : Scripted) (story : List Done) : Type 0 where
+  pub kept : (before : Scripted) (done : Done) (operation : Operating) (how : OpEnd) (begun : gets.Begun) (turns : List gets.Turn) → IsLineOf first story before done → TellsLoneGet before done operation how begun
+      → gets.AreTurns begun operation.past turns → length (kept_events begun turns) ≤ 1
+  pub lone : (before : Scripted) (done : Done) (operation : Operating) (how : OpEnd) (begun : gets.Begun) (events : List KeptEvent) → IsLineOf first story before done → TellsLoneGet before done operation how begun
+      → IsGetEnd how (Overtaken events) → ⊥
   pub not_overtaken : (before : Scripted) (done : Done) (of : Job) (operation : Operating) (how : OpEnd) (events : List KeptEvent) → IsLineOf first story before done → RunsJob before done of operation how → IsGetEnd how (Overtaken events) → ⊥
   pub created : (before : Scripted) (done : Done) (name : NameModel) (object : ObjectModel) (operation : Operating) (how : OpEnd) → IsLineOf first story before done → RunsJob before done (job.Put name object) operation how
       → AreReady before.world.scene → HaveRoom before.world.scene (stamp_in before.world) name object

@@ -30,8 +30,8 @@ pub enum PlayEnd {
 /// Does the events of a script's lines, up to the first faulty one, and adds to the text what is told of them.
 ///
 /// From a world that stands for one, there is a story of what was done: the basic events of each line, and the worlds that they led to.
-/// The text that was added is that of the story, and each found object in it is one put's. After want of memory the world answers so
-/// from then on.
+/// The text that was added is that of the story, each found object in it is one put's, what was acknowledged is kept (`KeepsWord`),
+/// and operations beside which nothing steps end in full (`EndsInFull`). After want of memory the world answers so from then on.
 pub fn play(alloc: Global, input: &[u8], world: &mut World<'_>, text: &mut Bytes) -> PlayEnd
     requires { length input.now ≤ greatest_script }
     ensures played { (before : Scripted) → StandsFor world.old before → Played before (lines_of input.now) result world.new text.old text.new }

@@ -5,8 +5,8 @@ use Rattle.sw_message.specs.declared.sent.Sent.{Sent}
 use Rattle.sw_scene.specs.Scene.{Answer, Mail, Request, Scene}
 use Rattle.sw_core.specs.World.{Operating}
 
--- A transcript as it may stand by a step, where the request of each ticket was made at a step of its own: a message that was handed
--- out was made then, and what was told before it had been made by then; a reply was made later than its request.
+-- A transcript as it may stand by a step, where the request of each ticket was made at some step: a message that was handed out was
+-- made then, and what was told before it had been made by then; a reply was made later than its request.
 abbrev pub IsTimed : List Mail → (number : ℕ) → (asked_at : ℕ → ℕ) → List Step → (by : ℕ) → Type 0
 IsTimed mail number asked_at [] by = ⊤
 IsTimed mail number asked_at (Gave sent ∷ past) by =

@@ -19,7 +19,8 @@ use sw_io::{ReadError, Sink, Source, read_up_to, write_all};
 /// What a script's words and input give is a run of it from an empty world on: a story of its events, of which the text is told. Each
 /// object that is found in the story is one put's, which the run's field `found` says: an object of this name was put at this stamp
 /// before, k different indices sent its archives, and the stamp is a durable floor that an answer showed, the greatest once every
-/// device had answered or was given up.
+/// device had answered or was given up. What is told to be created or deleted is kept, by its field `promised`; and operations beside
+/// which nothing steps end in full, by its field `full`.
 ///
 /// All clauses but `whole` hold whatever source and sink tell; `whole` says `decided` again of an input that is told.
 pub fn swift_main<S: Source, O: Sink>(
