@@ -1,5 +1,5 @@
 -- How a get ends whose answers are true replies: by what devices have at its place.
-use Rattle.std.proofs.Common.{◌≡◌, ℕ, ◌<◌, Contains, List, [], ◌∷◌, length, Some, refl, sym, ap, subst, ◌∙◌, arith}
+use Rattle.std.proofs.Common.{◌≡◌, inl, inr, ℕ, ◌<◌, Contains, List, [], ◌∷◌, length, Some, refl, sym, ap, subst, ◌∙◌, arith}
 use Rattle.std.specs.List.{All}
 use Rattle.std.proofs.lemmas.List.Elements.{All-head, Contains-append_right}
 use Rattle.sw_types.specs.Name.{NameModel}
@@ -140,24 +140,28 @@ module _ (scene : Scene) (sound : IsSoundScene scene) (name : NameModel) (own : 
   ends_so gets.Absent end = record {
     absent = λ none. refl;
     buried = λ stamp greatest. absurd (none_there end (tombstone_floor stamp) greatest.there);
+    durable = λ stamp greatest. absurd (none_there end (durable_at stamp) greatest.there);
     found = λ stamp greatest held. absurd (none_there end (durable_at stamp) greatest.there);
     too_few = λ stamp have same held. absurd (cc);
   }
   ends_so (gets.Buried at) end = let is = buried_top at end in record {
     absent = λ none. absurd (none (tombstone_floor at) is.there);
     buried = λ stamp greatest. ap (λ (floor : Floor). gets.Buried floor.stamp) (one_top (tombstone_floor at) (tombstone_floor stamp) is greatest);
+    durable = λ stamp greatest. absurd (two_kinds at stamp (one_top (tombstone_floor at) (durable_at stamp) is greatest));
     found = λ stamp greatest held. absurd (two_kinds at stamp (one_top (tombstone_floor at) (durable_at stamp) is greatest));
     too_few = λ stamp have same held. absurd (cc);
   }
   ends_so (gets.Found at object sources) end = let is = found_top at object sources end in record {
     absent = λ none. absurd (none (durable_at at) is.there);
     buried = λ stamp greatest. absurd (two_kinds stamp at (sym (one_top (durable_at at) (tombstone_floor stamp) is greatest)));
+    durable = λ stamp greatest. inl (object, sources, ap (λ (floor : Floor). gets.Found floor.stamp object sources) (one_top (durable_at at) (durable_at stamp) is greatest));
     found = λ stamp greatest held. (object, sources, ap (λ (floor : Floor). gets.Found floor.stamp object sources) (one_top (durable_at at) (durable_at stamp) is greatest));
     too_few = λ stamp have same held. absurd (cc);
   }
   ends_so (gets.TooFew at have) end = let is = few_top at have end in record {
     absent = λ none. absurd (none (durable_at at) is.there);
     buried = λ stamp greatest. absurd (two_kinds stamp at (sym (one_top (durable_at at) (tombstone_floor stamp) is greatest)));
+    durable = λ stamp greatest. inr (have, ap (λ (floor : Floor). gets.TooFew floor.stamp have) (one_top (durable_at at) (durable_at stamp) is greatest));
     found = λ stamp greatest held.
         let same : at ≡ stamp = ap (λ (floor : Floor). floor.stamp) (one_top (durable_at at) (durable_at stamp) is greatest) in
         absurd (few_held at have end (subst (λ n. AreHeldThere scene place n scene.cluster.policy.k) (sym same) held));

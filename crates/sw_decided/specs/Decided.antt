@@ -1,5 +1,5 @@
--- What every scene of a run keeps of stamps: what devices hold, and what messages and replies say, is of puts and deletes that were
--- started before; what is durable was decided before; and stamps rise in the order of their starts.
+-- What every scene of a run keeps of stamps: what devices hold, what messages ask to store, to make durable or to bury, and what replies
+-- show are of puts and deletes that were started before; what is durable was decided before; and stamps rise in the order of their starts.
 use Rattle.std.specs.Prelude.{◌≡◌, ◌≢◌, ◌≤◌, ◌<◌, ℕ, Bool, true, false, List, ◌++◌, Contains, length, map, Some, ⊤}
 use Rattle.std.specs.List.{All, AllPairs}
 use Rattle.sw_types.specs.Name.{NameModel}

@@ -16,5 +16,5 @@ pub data WorldMove (before : World) : World → Type 0 where
   Answered : (at number : ℕ) (sent : Sent) (reply : Reply) → Contains before.scene.mail (Answer at number sent reply) → (operation : Operating) → numbered before.operations number ≡ Some operation
       → operation.is_over ≡ false → (after : World) → Proceeds before number operation (told operation.past sent.ticket (Some reply)) after → WorldMove before after
   GaveUp : (number ticket : ℕ) (operation : Operating) → numbered before.operations number ≡ Some operation → operation.is_over ≡ false → (after : World) → Proceeds before number operation (told operation.past ticket None) after → WorldMove before after
-  -- one begins, and what it begins with is noted
+  -- one begins, as which a put or a delete may be noted
   Began : (begun : Begun) (scene : Scene) → Notes before.clock before.scene scene → (after : World) → Begins begun scene before after → WorldMove before after

@@ -44,7 +44,7 @@ use Rattle.sw_world.specs.Standing.{IsLetterOf}
 use Rattle.sw_world.specs.Unfolding.{Unfolds, job_of}
 use Rattle.sw_world.proofs.Places.{zip-length}
 use Rattle.sw_play.specs.Promised.{IsGetEnd}
-use Rattle.sw_play.specs.Short.{EndsInFull, IsReading, RunsJob, TellsLoneGet}
+use Rattle.sw_play.specs.Short.{AreUp, EndsInFull, IsReading, RunsJob, TellsLoneGet}
 use Rattle.sw_play.proofs.GetEnds.{get_told, reads, told_get}
 use Rattle.sw_play.proofs.Keeping.{get_end, told_end}
 use Rattle.sw_play.proofs.OwnRuns.{AllUp}
@@ -210,13 +210,20 @@ module _ (before : Scripted) (done : Done) (line : StoodFor before done) (operat
 
 -- ---- a story
 
+-- devices that are up are ready, for the disks of a world of the program are sure
+ready_if : (before : Scripted) (done : Done) → StoodFor before done → AreUp before.world.scene → AreReady before.world.scene
+ready_if before done line up = record {
+  up = up;
+  sure = λ device member. let is = line.stood.devices device (subst (λ (one : ClusterModel). IsMember one device) line.stood.cluster_is member) in (is.folders, is.sure);
+}
+
 module _ (first : Scripted) (story : List Done) (stood : AllStoodFor first story) where
   pub ends_in_full : EndsInFull first story
   ends_in_full = record {
     kept = λ before done operation how begun turns line lone are. kept before done (stood before done line) operation how begun lone turns are;
     lone = λ before done operation how begun events line lone is. lone_overtaken before done (stood before done line) operation how begun lone events is;
     not_overtaken = λ before done of operation how events line runs is. overtaken before done (stood before done line) of operation how runs events is;
-    created = λ before done name object operation how line runs ready room. created before done (stood before done line) name operation how ready object runs room;
-    deleted = λ before done name operation how line runs ready. deleted before done (stood before done line) name operation how ready runs;
-    gets = λ before done name of operation how line runs reading ready own. reads_by before done (stood before done line) operation how ready name of runs reading own;
+    created = λ before done name object operation how line runs up room. created before done (stood before done line) name operation how (ready_if before done (stood before done line) up) object runs room;
+    deleted = λ before done name operation how line runs up. deleted before done (stood before done line) name operation how (ready_if before done (stood before done line) up) runs;
+    gets = λ before done name of operation how line runs reading up own. reads_by before done (stood before done line) operation how (ready_if before done (stood before done line) up) name of runs reading own;
   }

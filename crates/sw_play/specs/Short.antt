@@ -1,8 +1,9 @@
--- How the lines end that run an operation to its end: with nothing else stepping.
-use Rattle.std.specs.Prelude.{◌≡◌, ◌≤◌, ◌+◌, Bool, true, List, [], ◌∷◌, ◌++◌, Contains, length, Some}
+-- How operations end beside which nothing steps; and so those that a line runs to its end.
+use Rattle.std.specs.Prelude.{◌≡◌, ◌≤◌, ℕ, ◌+◌, Bool, true, List, [], ◌∷◌, ◌++◌, Contains, length, Some}
 use Rattle.sw_types.specs.Name.{NameModel}
 use Rattle.sw_types.specs.Object.{ObjectModel}
 use Rattle.sw_ring.specs.Cluster.{place_of_name}
+use Rattle.sw_message.specs.Message.{IsMember}
 use Rattle.sw_delete.specs.Causes.{ToldExisted}
 use Rattle.sw_delete.specs.declared.end.DeleteEnd.TheVariants.{Deleted}
 use Rattle.sw_get.specs.Get as gets
@@ -10,12 +11,13 @@ use Rattle.sw_get.specs.declared.end.GetEnd.{GetEnd}
 use Rattle.sw_get.specs.declared.end.GetEnd.TheVariants.{Overtaken}
 use Rattle.sw_get.specs.declared.round_end.KeptEvent.{KeptEvent}
 use Rattle.sw_put.specs.declared.end.PutEnd.TheVariants.{Created}
+use Rattle.sw_scene.specs.Scene.{Scene, is_up}
 use Rattle.sw_core.specs.Event.{stamp_in}
 use Rattle.sw_core.specs.Operating.{IsGetOf}
 use Rattle.sw_core.specs.World.{Operating, numbered}
 use Rattle.sw_steady.specs.Steady.{MissesAlike, kept_events}
 use Rattle.sw_alone.specs.Alone.{IsAlone}
-use Rattle.sw_complete.specs.Complete.{AreReady, HasOwnPlace, HaveRoom}
+use Rattle.sw_complete.specs.Complete.{HasOwnPlace, HaveRoom}
 use Rattle.sw_complete.specs.Ends.{EndsByWhatIsThere}
 use Rattle.sw_script.specs.declared.event.Event.TheVariants as event
 use Rattle.sw_script.specs.declared.event.Job.{Job}
@@ -61,8 +63,13 @@ IsReading name (job.Get other) = other ≡ name
 IsReading name (job.Head other) = other ≡ name
 IsReading name other = ⊥
 
--- A get beside which nothing steps keeps one round at most as an event and is not overtaken, and no get that a line runs is. Where all devices are up before the line, a put for which there is room is created with k + m
--- commits, a delete is done with k + m marks, and a get of a name whose place no other name has ends by what devices have there.
+-- each device is up
+abbrev pub AreUp : Scene → Type 0
+AreUp scene = (device : ℕ) → IsMember scene.cluster device → is_up scene device ≡ true
+
+-- A get beside which nothing steps keeps one round at most as an event and is not overtaken, and no get that a line runs is. Where all
+-- devices are up before the line, a put for whose archives every disk has room is created with k + m commits, a delete is done with
+-- k + m marks, and a get of a name whose place no other name has that was put ends by what devices have there.
 pub record EndsInFull (first : Scripted) (story : List Done) : Type 0 where
   pub kept : (before : Scripted) (done : Done) (operation : Operating) (how : OpEnd) (begun : gets.Begun) (turns : List gets.Turn) → IsLineOf first story before done → TellsLoneGet before done operation how begun
       → gets.AreTurns begun operation.past turns → length (kept_events begun turns) ≤ 1
@@ -70,10 +77,10 @@ pub record EndsInFull (first : Scripted) (story : List Done) : Type 0 where
       → IsGetEnd how (Overtaken events) → ⊥
   pub not_overtaken : (before : Scripted) (done : Done) (of : Job) (operation : Operating) (how : OpEnd) (events : List KeptEvent) → IsLineOf first story before done → RunsJob before done of operation how → IsGetEnd how (Overtaken events) → ⊥
   pub created : (before : Scripted) (done : Done) (name : NameModel) (object : ObjectModel) (operation : Operating) (how : OpEnd) → IsLineOf first story before done → RunsJob before done (job.Put name object) operation how
-      → AreReady before.world.scene → HaveRoom before.world.scene (stamp_in before.world) name object
+      → AreUp before.world.scene → HaveRoom before.world.scene (stamp_in before.world) name object
       → how ≡ end.Put (Created (stamp_in before.world) (before.world.scene.cluster.policy.k + before.world.scene.cluster.policy.m))
-  pub deleted : (before : Scripted) (done : Done) (name : NameModel) (operation : Operating) (how : OpEnd) → IsLineOf first story before done → RunsJob before done (job.Delete name) operation how → AreReady before.world.scene
+  pub deleted : (before : Scripted) (done : Done) (name : NameModel) (operation : Operating) (how : OpEnd) → IsLineOf first story before done → RunsJob before done (job.Delete name) operation how → AreUp before.world.scene
       → (existed : Bool) × (how ≡ end.Delete (Deleted (stamp_in before.world) (before.world.scene.cluster.policy.k + before.world.scene.cluster.policy.m) existed))
       × (existed ≡ true → ToldExisted operation.past) × (ToldExisted operation.past → existed ≡ true)
   pub gets : (before : Scripted) (done : Done) (name : NameModel) (of : Job) (operation : Operating) (how : OpEnd) → IsLineOf first story before done → RunsJob before done of operation how → IsReading name of
-      → AreReady before.world.scene → HasOwnPlace before.world.scene name → (ending : GetEnd) × IsGetEnd how ending × EndsByWhatIsThere before.world.scene (place_of_name before.world.scene.cluster name) ending
+      → AreUp before.world.scene → HasOwnPlace before.world.scene name → (ending : GetEnd) × IsGetEnd how ending × EndsByWhatIsThere before.world.scene (place_of_name before.world.scene.cluster name) ending
