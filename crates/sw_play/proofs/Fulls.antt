@@ -44,7 +44,7 @@ use Rattle.sw_world.specs.Standing.{IsLetterOf}
 use Rattle.sw_world.specs.Unfolding.{Unfolds, job_of}
 use Rattle.sw_world.proofs.Places.{zip-length}
 use Rattle.sw_play.specs.Promised.{IsGetEnd}
-use Rattle.sw_play.specs.Short.{AreUp, EndsInFull, IsReading, RunsJob, TellsLoneGet}
+use Rattle.sw_play.specs.Full.{AreUp, EndsInFull, IsReading, RunsJob, TellsLoneGet}
 use Rattle.sw_play.proofs.GetEnds.{get_told, reads, told_get}
 use Rattle.sw_play.proofs.Keeping.{get_end, told_end}
 use Rattle.sw_play.proofs.OwnRuns.{AllUp}

@@ -14,7 +14,7 @@ use Rattle.sw_script.specs.declared.fault.LineFault.{LineFault}
 use Rattle.sw_told.specs.Text.{told_text}
 use Rattle.sw_play.specs.Lines.{DoesLine, DoesOrBlank, StopsLine}
 use Rattle.sw_play.specs.Play.{Played}
-use Rattle.sw_play.specs.Short.{after_lines}
+use Rattle.sw_play.specs.Full.{after_lines}
 use Rattle.sw_world.specs.Scripted.{Scripted}
 use Rattle.sw_world.specs.Standing.{StandsFor, WorldModel}
 use Rattle.sw_world.specs.Doing.{Done}

@@ -3,7 +3,7 @@ use Rattle.std.proofs.Common.{◌≡◌, ◌⊎◌, inl, inr, ⊎_elim, List, []
 use Rattle.sw_world.specs.Doing.{DoesEvent, Done}
 use Rattle.sw_world.specs.Scripted.{Scripted}
 use Rattle.sw_world.specs.Standing.{StandsFor, WorldModel}
-use Rattle.sw_play.specs.Short.{IsLineOf, after_lines}
+use Rattle.sw_play.specs.Full.{IsLineOf, after_lines}
 
 -- worlds of the program stood for the worlds before and after a line
 pub record StoodFor (before : Scripted) (done : Done) : Type 0 where

@@ -1,5 +1,5 @@
+pub mod Full
 pub mod Lines
 pub mod Play
 pub mod Promised
-pub mod Short
 pub mod Story

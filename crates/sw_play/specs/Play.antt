@@ -5,7 +5,7 @@ use Rattle.sw_world.specs.Scripted.{Scripted}
 use Rattle.sw_world.specs.Standing.{StandsFor, WorldModel}
 use Rattle.sw_world.specs.Doing.{Done}
 use Rattle.sw_play.specs.Promised.{KeepsWord}
-use Rattle.sw_play.specs.Short.{EndsInFull}
+use Rattle.sw_play.specs.Full.{EndsInFull}
 use Rattle.sw_play.specs.Story.{Plays, TellsOnePut, story_text}
 use Rattle.sw_play.specs.declared.playing.PlayEnd.{PlayEnd}
 use Rattle.sw_play.specs.declared.playing.PlayEnd.TheVariants as ended
