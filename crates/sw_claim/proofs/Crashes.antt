@@ -2,9 +2,9 @@
 use Rattle.std.proofs.Common.{Bool, List}
 use Rattle.sw_disk.specs.Folder.{File}
 use Rattle.sw_diskfile.specs.Normal.{HaveOneNormalForm}
+use Rattle.sw_diskfile.proofs.NormalForms.{normal_form}
 use Rattle.sw_claim.specs.Claim.{Claim, IsBorneBy}
 use Rattle.sw_claim.proofs.Normal.{normal_bears}
-use Rattle.sw_claim.proofs.NormalForms.{normal_form}
 
 -- what the one bears the other does
 pub crash_bears : (primary : Bool) (files others : List File) (claim : Claim) → HaveOneNormalForm primary files others → IsBorneBy primary claim files → IsBorneBy primary claim others

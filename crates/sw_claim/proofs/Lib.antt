@@ -1,11 +1,8 @@
 pub mod Bearing
 pub mod Crashes
-pub mod Decisions
-pub mod Directories
 pub mod Floors
 pub mod Names
 pub mod Normal
-pub mod NormalForms
 pub mod Rows
 pub mod Shown
 pub mod Steps

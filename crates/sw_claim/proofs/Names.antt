@@ -11,12 +11,12 @@ use Rattle.sw_hashdir.specs.Directory.{IsDirectory}
 use Rattle.sw_hashdir.specs.Obsolete.{IsAfter}
 use Rattle.sw_hashdir.proofs.Texts.{one_text}
 use Rattle.sw_diskfile.specs.Normal.{AreObsolete}
+use Rattle.sw_diskfile.proofs.Decisions.{same_or_not}
 use Rattle.sw_diskfile.proofs.Directories.{durable_directory, has_content, removed_texts}
 use Rattle.sw_diskfile.proofs.Normal.{all_normal}
 use Rattle.sw_message.specs.Table.{durable_text, plain_text}
 use Rattle.sw_claim.specs.Claim.{Claim, IsBearing, IsBorneBy}
 use Rattle.sw_claim.proofs.Bearing.{plain_bears}
-use Rattle.sw_claim.proofs.Decisions.{same_or_not}
 use Rattle.sw_claim.proofs.Normal.{normal_bears}
 
 module _ (primary : Bool) (claim : Claim) (files : List File) where

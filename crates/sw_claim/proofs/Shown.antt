@@ -8,11 +8,11 @@ use Rattle.sw_hashpath.specs.declared.file_name.FileName.TheVariants.{Data, Tomb
 use Rattle.sw_hashdir.specs.Directory.{HasFloor, HasFloorAt, IsDirectory, StandsAbove}
 use Rattle.sw_hashdir.specs.Listing.{IsListingOf, ListingModel}
 use Rattle.sw_hashdir.specs.declared.floor.Floor.{Floor}
+use Rattle.sw_diskfile.proofs.Spelt.{there_or_not}
 use Rattle.sw_message.specs.Warrant.{HasListing, ListsFloor}
 use Rattle.sw_message.specs.declared.reply.Reply.{Reply}
 use Rattle.sw_message.specs.declared.reply.Reply.TheVariants as reply
 use Rattle.sw_claim.specs.Claim.{ADurableEntry, ATombstone, AnEntry, Claim, IsBorneBy, IsListedIn, IsWhat, ListsWhat, ShowsFloor, What}
-use Rattle.sw_claim.proofs.Directories.{there_or_not}
 use Rattle.sw_claim.proofs.Floors.{floor_name}
 use Rattle.sw_claim.proofs.Names.{there_bears}
 

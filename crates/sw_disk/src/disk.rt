@@ -73,10 +73,11 @@ pub trait Disk {
         ensures cause { IfErr result (λ refusal. refusal ≡ NoMemory) };
 
     /// Replaces the temporary file. The disk is full where the bytes are more than its capacity less those of all
-    /// published files; the old bytes of the temporary file don't count.
+    /// published files; the old bytes of the temporary file don't count. Memory is wanted only where the bytes fit.
     fn write_tmp(&mut self, alloc: Global, bytes: &[u8]) -> Result<(), DiskRefusal>
         ensures full { (need free : ℕ) → IsErrOf result (DiskRefusal.Full need free) → IsFull need free (length bytes.now) (seen self.old).told }
         ensures fits { OnOk result (IfTold (seen self.old).told (λ state. length bytes.now ≤ free_of state)) }
+        ensures memory { IsErrOf result NoMemory → IfTold (seen self.old).told (λ state. length bytes.now ≤ free_of state) }
         ensures runs { Runs seen left_since (WriteTmp bytes.now ∷ []) (refusal_of result) self.old self.new }
         ensures counted { IsCounted (seen self.old) (seen self.new) (refusal_of result) }
         ensures room { KeepsRoom (seen self.old) (seen self.new) };

@@ -54,7 +54,7 @@ module _ (names others : List FileName) (same : AreSame names others) where
 -- ---- once an obsolete name is gone
 
 -- the name makes this floor
-abbrev Makes : ℕ → FloorKind → FileName → Type 0
+abbrev pub Makes : ℕ → FloorKind → FileName → Type 0
 Makes stamp kind.Durable name = (index : ℕ) × (Data stamp index true ≡ name)
 Makes stamp kind.Tombstone name = Tombstone stamp ≡ name
 

@@ -10,10 +10,10 @@ use Rattle.sw_hashdir.specs.Directory.{HasFloor, IsAbove, IsFloor, StandsAbove}
 use Rattle.sw_hashdir.specs.declared.floor.Floor.{Floor}
 use Rattle.sw_hashdir.specs.declared.floor.FloorKind.{FloorKind}
 use Rattle.sw_hashdir.specs.declared.floor.FloorKind.TheVariants as kind
+use Rattle.sw_diskfile.proofs.Floors.{floor_of}
+use Rattle.sw_diskfile.proofs.Spelt.{directory_of}
 use Rattle.sw_message.specs.Step.{Folders}
 use Rattle.sw_claim.specs.Claim.{ShowsFloor}
-use Rattle.sw_claim.proofs.Directories.{directory_of}
-use Rattle.sw_claim.proofs.Floors.{floor_of}
 use Rattle.sw_duties.specs.Duties.{HasFloorOf}
 
 -- ---- a floor that another is not above

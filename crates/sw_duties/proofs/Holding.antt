@@ -7,12 +7,12 @@ use Rattle.sw_hashdir.specs.declared.floor.FloorKind.TheVariants as kind
 use Rattle.sw_hashpath.specs.declared.file_name.FileName.{FileName}
 use Rattle.sw_hashpath.specs.declared.file_name.FileName.TheVariants.{Tombstone}
 use Rattle.sw_diskfile.specs.Normal.{IsObsoleteText}
+use Rattle.sw_diskfile.proofs.NormalForms.{normal_form}
 use Rattle.sw_ring.specs.Cluster.{ClusterModel}
 use Rattle.sw_message.specs.Message.{is_primary}
 use Rattle.sw_message.specs.Step.{Folders}
 use Rattle.sw_claim.specs.Claim.{ATombstone, Claim, IsBorneBy, ShowsFloor}
 use Rattle.sw_claim.proofs.Normal.{normal_bears}
-use Rattle.sw_claim.proofs.NormalForms.{normal_form}
 use Rattle.sw_duties.specs.Duties.{HasFloorOf, Holds}
 use Rattle.sw_claim.proofs.Normal.{left_before}
 use Rattle.sw_decided.proofs.Dates.{stands_least}

@@ -16,7 +16,7 @@ use std::marker::Model;
 use sw_hashpath::FileName;
 use sw_types::{NoMemory, Stamp};
 
-/// The entries of a folder, ascending by stamp and index, and its tombstones, ascending.
+/// Entries and tombstones. Those that a directory lists ascend: entries by stamp and index, tombstones by stamp.
 #[derive(Debug, Drop)]
 pub struct Listing {
     pub(crate) entries: Vec<Entry>,
@@ -32,6 +32,16 @@ impl Model for Listing {
 }
 
 impl Listing {
+    /// The listing of these entries and tombstones, in whatever order they come. It takes no memory.
+    pub fn new(entries: Vec<Entry>, tombstones: Vec<Stamp>) -> Listing
+        ensures { result ≡ record { entries = entries.items; tombstones = tombstones.items } }
+    {
+        Listing {
+            entries,
+            tombstones,
+        }
+    }
+
     /// The entries.
     pub fn entries(&self) -> &[Entry]
         ensures { result.now ≡ self.now.entries }

@@ -1,6 +1,6 @@
 //! Directories of folders: floors, listings, names that are obsolete, and what comes after a change.
 
-use crate::{Entry, Floor, FloorKind, HashDir};
+use crate::{Entry, Floor, FloorKind, HashDir, Listing};
 use std::alloc::Global;
 use std::process::Abort;
 use std::test::Fail;
@@ -77,8 +77,15 @@ fn lists_entries_and_tombstones(rt: HostRuntime) -> Result<(), Fail> {
         })
     };
     let entries = [entry(0, 0, false)?, entry(0, 1, true)?, entry(1, 2, false)?];
-    assert_eq!(rt; listing.entries(), entries.as_slice());
-    assert_eq!(rt; listing.tombstones(), [stamp(3)?].as_slice());
+    let tombstones = [stamp(3)?];
+    let made = Listing::new(
+        Vec::from_slice(alloc, &entries)?,
+        Vec::from_slice(alloc, &tombstones)?,
+    );
+    for listing in [listing, made] {
+        assert_eq!(rt; listing.entries(), entries.as_slice());
+        assert_eq!(rt; listing.tombstones(), tombstones.as_slice());
+    }
     Ok(())
 }
 

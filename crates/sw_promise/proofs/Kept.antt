@@ -2,6 +2,7 @@
 use Rattle.std.proofs.Common.{◌≡◌, inl, inr, ⊎_elim, ℕ, Bool, true, false, refl, sym, ap, subst}
 use Rattle.std.proofs.lemmas.Bool.{cases_eq}
 use Rattle.sw_hashpath.specs.Place.{IsPlace, PlaceModel, folder_of}
+use Rattle.sw_diskfile.proofs.Decisions.{OrNot, both, same_or_not}
 use Rattle.sw_ring.specs.Cluster.{ClusterModel}
 use Rattle.sw_message.specs.Message.{IsPlaceOf, is_primary, place_in}
 use Rattle.sw_message.specs.Step.{Folders}
@@ -12,7 +13,6 @@ use Rattle.sw_objsrv.specs.Handling.{IsStamped}
 use Rattle.sw_hashpath.proofs.Folders.{one_place}
 use Rattle.sw_claim.specs.Claim.{ADurableEntry, ATombstone, AnEntry, AsksAway, Claim, IsBorneBy, IsOfIndex, What}
 use Rattle.sw_claim.proofs.Crashes.{crash_bears}
-use Rattle.sw_claim.proofs.Decisions.{OrNot, both, same_or_not}
 use Rattle.sw_claim.proofs.Normal.{normal_bears}
 use Rattle.sw_claim.proofs.Steps.{step_keeps}
 use Rattle.sw_scene.specs.Devices.{IsDeviceStep}

@@ -8,7 +8,7 @@ use Rattle.sw_hashpath.specs.declared.file_name.FileName.TheVariants.{Data, Tomb
 use Rattle.sw_hashdir.specs.Directory.{IsDirectory}
 use Rattle.sw_hashdir.proofs.Texts.{one_text}
 use Rattle.sw_diskfile.proofs.Lists.{Contains-cases, Contains-first, Contains-later, Contains-none}
-use Rattle.sw_claim.proofs.Decisions.{OrNot, among_or_not, below_or_not, same_or_not}
+use Rattle.sw_diskfile.proofs.Decisions.{OrNot, among_or_not, below_or_not, same_or_not}
 
 -- ---- texts
 

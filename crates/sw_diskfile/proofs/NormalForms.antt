@@ -1,6 +1,6 @@
 -- Each folder has a normal form.
-use Rattle.std.proofs.Common.{◌≡◌, inl, inr, ⊎_elim, ℕ, ◌<◌, Bool, true, false, List, [], ◌∷◌, Option, Some, None, refl, sym, ◌∙◌, subst, arith}
-use Rattle.std.proofs.lemmas.Bool.{cases_eq, cases_lt}
+use Rattle.std.proofs.Common.{◌≡◌, inl, inr, ⊎_elim, ℕ, Bool, true, false, List, [], ◌∷◌, Option, Some, None, refl, sym, ◌∙◌, subst}
+use Rattle.std.proofs.lemmas.Bool.{cases_eq}
 use Rattle.sw_disk.specs.Answers.{names_of}
 use Rattle.sw_disk.specs.Folder.{File}
 use Rattle.sw_hashpath.specs.FileName.{IsFileName}
@@ -10,24 +10,13 @@ use Rattle.sw_hashdir.specs.Directory.{IsDirectory, IsFloor}
 use Rattle.sw_hashdir.specs.Laws.{one_floor}
 use Rattle.sw_hashdir.specs.Obsolete.{IsBelow, IsBelowFloor, IsObsolete, IsTwin}
 use Rattle.sw_hashdir.specs.declared.floor.Floor.{Floor}
-use Rattle.sw_hashdir.specs.declared.floor.FloorKind.{FloorKind}
-use Rattle.sw_hashdir.specs.declared.floor.FloorKind.TheVariants as kind
 use Rattle.sw_hashdir.proofs.Texts.{one_text}
 use Rattle.sw_diskfile.specs.Normal.{AreThoseLeft, IsNormalForm, IsObsoleteText}
-use Rattle.sw_claim.proofs.Decisions.{OrNot, both, either}
-use Rattle.sw_claim.proofs.Directories.{directory_of, spelt_or_not, there_or_not}
-use Rattle.sw_claim.proofs.Floors.{floor_of}
+use Rattle.sw_diskfile.proofs.Decisions.{OrNot, both, either, less_or_not}
+use Rattle.sw_diskfile.proofs.Floors.{floor_of, tombstone_or_not}
+use Rattle.sw_diskfile.proofs.Spelt.{directory_of, spelt_or_not, there_or_not}
 
 -- ---- what is below a floor
-
--- a number is less than another, or not
-less_or_not : (a b : ℕ) → OrNot (a < b)
-less_or_not a b = ⊎_elim (λ less. inl less) (λ upto. inr (λ less. omega (arith, less, upto))) (cases_lt a b)
-
--- a floor is a tombstone, or not
-tombstone_or_not : (k : FloorKind) → OrNot (k ≡ kind.Tombstone)
-tombstone_or_not kind.Tombstone = inl refl
-tombstone_or_not kind.Durable = inr (λ same. absurd (cc))
 
 -- a name is below a floor, or not
 below_or_not : (floor : Floor) (name : FileName) → OrNot (IsBelow floor name)
