@@ -1,16 +1,16 @@
 //! Passes over a link.
 
-ghost use Rattle.std.specs.Prelude.{◌≡◌, [], List, IfOk};
-ghost use Rattle.sw_message.specs.Learnt.{Nothing};
+ghost use Rattle.std.specs.Prelude.{◌≡◌, List, Some, IfOk};
+ghost use Rattle.sw_ring.specs.Cluster.{ClusterModel};
 ghost use Rattle.sw_message.specs.Message.{IsMember};
-ghost use Rattle.sw_message.specs.Running.{AreCalls, MayRun, StillTells};
+ghost use Rattle.sw_message.specs.Running.{AreCalls, StillTells};
 ghost use Rattle.sw_message.specs.Transcript.{IsRun, Step};
 ghost use Rattle.sw_daemon.specs.Pass.{IsEnd, IsNext};
 
 use crate::pass_op::PassOp;
 use crate::report::PassReport;
 use std::alloc::Global;
-use sw_message::{Link, run};
+use sw_message::{Link, run_whole};
 use sw_ring::Cluster;
 use sw_types::NoMemory;
 
@@ -22,13 +22,13 @@ pub fn pass<L: Link>(
     link: &mut L,
 ) -> Result<PassReport, NoMemory>
     requires member { IsMember cluster.now device }
-    requires may_run { MayRun cluster.now Nothing [] (L.cluster link.old) (L.learnt link.old) }
+    requires cluster { (of : ClusterModel) → L.cluster link.old ≡ Some of → cluster.now ≡ of }
     ensures runs { (past : List Step) × IsRun (IsNext (record { cluster = cluster.now; device = device })) past × AreCalls L.calls L.losses link.old past link.new
         × IfOk result (λ report. IsEnd (record { cluster = cluster.now; device = device }) past report) }
     ensures learns { StillTells (L.learnt link.old) (L.learnt link.new) }
     ensures cluster { L.cluster link.new ≡ L.cluster link.old }
 {
     let mut op = PassOp::begin(alloc, cluster, device);
-    run(&mut op, link)?;
+    run_whole(&mut op, link)?;
     Ok(*op.end().unwrap())
 }

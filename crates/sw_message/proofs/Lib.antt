@@ -1,9 +1,10 @@
 pub mod Ascending
 pub mod Ascents
 pub mod Directories
-mod Going
+pub mod Going
 mod Handlings
 pub mod Highest
+pub mod Soundly
 pub mod Spoils
 mod Steps
 mod Surveys

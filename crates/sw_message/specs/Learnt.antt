@@ -75,7 +75,13 @@ abbrev pub KnowsReply : ClusterModel → Learnt → ℕ → Msg → Option Reply
 KnowsReply cluster learnt device msg None = ⊤
 KnowsReply cluster learnt device msg (Some given) = IsHeard learnt device msg given × IsGenuine cluster learnt given
 
--- so are those of a transcript, and the puts that are known are sound
+-- the replies of a transcript are known
+abbrev pub KnowsReplies : ClusterModel → Learnt → List Step → Type 0
+KnowsReplies cluster learnt [] = ⊤
+KnowsReplies cluster learnt (Gave sent ∷ past) = KnowsReplies cluster learnt past
+KnowsReplies cluster learnt (Told sent answer ∷ past) = KnowsReply cluster learnt sent.device sent.msg answer × KnowsReplies cluster learnt past
+
+-- they are, and the puts that are known are sound
 abbrev pub AreKnown : ClusterModel → Learnt → List Step → Type 0
 AreKnown cluster learnt [] = IsSoundBook cluster.policy learnt.book
 AreKnown cluster learnt (Gave sent ∷ past) = AreKnown cluster learnt past

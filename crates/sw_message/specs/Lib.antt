@@ -4,6 +4,7 @@ pub mod Learnt
 pub mod Message
 pub mod Miss
 pub mod Running
+pub mod Soundly
 pub mod Spoil
 pub mod Step
 pub mod Survey

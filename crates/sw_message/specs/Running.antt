@@ -1,10 +1,10 @@
 -- Operations over a link: what is to be known before one goes on, and what the calls of the link are.
-use Rattle.std.specs.Prelude.{◌≡◌, ◌≤◌, ℕ, List, [], ◌∷◌, Contains, Option, Some, None, IsSome}
+use Rattle.std.specs.Prelude.{◌≡◌, ◌≤◌, ℕ, List, [], ◌∷◌, Contains, Option, Some, None, IsSome, ⊤}
 use Rattle.sw_words.specs.Counts.{Rose}
 use Rattle.sw_types.specs.Name.{NameModel}
 use Rattle.sw_types.specs.Object.{ObjectModel}
 use Rattle.sw_ring.specs.Cluster.{ClusterModel}
-use Rattle.sw_message.specs.Learnt.{AreKnown, HasOwn, IsSoundBook, Keeps, KnowsReply, Learnt, Own}
+use Rattle.sw_message.specs.Learnt.{HasOwn, IsSoundBook, Keeps, KnowsReplies, KnowsReply, Learnt, Own}
 use Rattle.sw_message.specs.Message.{IsMember, IsPlaceOf, place_in}
 use Rattle.sw_message.specs.Transcript.{Gave, Step, Told, opens}
 use Rattle.sw_message.specs.declared.message.Msg.{Msg}
@@ -15,18 +15,22 @@ pub record IsOf (cluster : ClusterModel) (device : ℕ) (msg : Msg) : Type 0 whe
   pub member : IsMember cluster device
   pub place : IsPlaceOf cluster (place_in msg)
 
--- What a link has learnt by a call, where it tells. A link that tells has a cluster, and goes on telling; the puts that it has learnt are sound.
-abbrev pub Learns : Option ClusterModel → Option Learnt → Option Learnt → ℕ → Msg → Option Reply → Type 0
-Learns of None after device msg answer = after ≡ None
-Learns None (Some before) after device msg answer = ⊥
-Learns (Some cluster) (Some before) None device msg answer = ⊥
-Learns (Some cluster) (Some before) (Some after) device msg answer = Keeps before after × KnowsReply cluster after device msg answer × IsSoundBook cluster.policy after.book
+-- A link that tells what it has learnt has a cluster, and the puts that it has learnt are sound.
+abbrev pub TellsSoundly : Option ClusterModel → Option Learnt → Type 0
+TellsSoundly of None = ⊤
+TellsSoundly None (Some learnt) = ⊥
+TellsSoundly (Some cluster) (Some learnt) = IsSoundBook cluster.policy learnt.book
 
--- a link that told what it had learnt tells still, and keeps that; one that told nothing tells nothing
+-- A link that tells keeps what it has learnt, or falls silent. One that is silent stays so.
 abbrev pub StillTells : Option Learnt → Option Learnt → Type 0
 StillTells None after = after ≡ None
-StillTells (Some before) None = ⊥
+StillTells (Some before) None = ⊤
 StillTells (Some before) (Some after) = Keeps before after
+
+-- What a link has learnt by a call of a device, where it tells still: the reply, and that an archive in it is that of a put.
+abbrev pub Hears : Option ClusterModel → Option Learnt → ℕ → Msg → Option Reply → Type 0
+Hears (Some cluster) (Some learnt) device msg answer = KnowsReply cluster learnt device msg answer
+Hears of learnt device msg answer = ⊤
 
 -- a message is lost only where the count of losses rose
 pub record CountsLoss (before after : ℕ) (answer : Option Reply) : Type 0 where
@@ -49,15 +53,19 @@ AreCalls calls losses before (Gave sent ∷ more) after = ⊥
 pub record MayRun (cluster : ClusterModel) (own : Own) (past : List Step) (of : Option ClusterModel) (learnt : Option Learnt) : Type 0 where
   pub nothing_open : opens past ≡ []
   pub same_cluster : (other : ClusterModel) → of ≡ Some other → cluster ≡ other
-  pub known : (other : ClusterModel) (known : Learnt) → of ≡ Some other → learnt ≡ Some known → HasOwn own known × AreKnown cluster known past
+  pub known : (known : Learnt) → learnt ≡ Some known → HasOwn own known × KnowsReplies cluster known past
+
+-- So it is before an operation begins that has handed out nothing.
+pub record MayBegin (cluster : ClusterModel) (own : Own) (of : Option ClusterModel) (learnt : Option Learnt) : Type 0 where
+  pub same_cluster : (other : ClusterModel) → of ≡ Some other → cluster ≡ other
+  pub known : (known : Learnt) → learnt ≡ Some known → HasOwn own known
 
 -- a put of an object was learnt, or a delete where there is none
 abbrev pub LearnsOwn : Learnt → NameModel → Option ObjectModel → ℕ → Type 0
 LearnsOwn learnt name None stamp = Contains learnt.marks (record { stamp = stamp; name = name })
 LearnsOwn learnt name (Some object) stamp = Contains learnt.book (record { stamp = stamp; name = name; object = object })
 
--- What a link has learnt by a draw, where it tells; a link that tells goes on telling.
-abbrev pub Draws : Option Learnt → Option Learnt → NameModel → Option ObjectModel → ℕ → Type 0
-Draws None after name object stamp = after ≡ None
-Draws (Some before) None name object stamp = ⊥
-Draws (Some before) (Some after) name object stamp = Keeps before after × LearnsOwn after name object stamp
+-- what a link has learnt by a draw, where it tells still
+abbrev pub Draws : Option Learnt → NameModel → Option ObjectModel → ℕ → Type 0
+Draws None name object stamp = ⊤
+Draws (Some learnt) name object stamp = LearnsOwn learnt name object stamp

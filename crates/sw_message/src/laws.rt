@@ -1,9 +1,14 @@
 //! Laws of the definitions, each the contract of a function without arguments.
 
-ghost use Rattle.std.specs.Prelude.{◌≡◌, ℕ, List};
+ghost use Rattle.std.specs.Prelude.{◌≡◌, ◌<◌, [], ◌∷◌, ◌++◌, ℕ, true, Contains, List, Some};
+ghost use Rattle.sw_types.specs.Policy.{PolicyModel};
+ghost use Rattle.sw_archive.specs.Put.{IsPut};
 ghost use Rattle.sw_ring.specs.Cluster.{ClusterModel};
 ghost use Rattle.sw_hashdir.specs.declared.floor.Floor.{Floor as AFloor};
 ghost use Rattle.sw_message.specs.Floors.{IsHighest, highest};
+ghost use Rattle.sw_message.specs.Learnt.{Booked, Learnt};
+ghost use Rattle.sw_message.specs.Running.{TellsSoundly};
+ghost use Rattle.sw_message.specs.Soundly.{is_sound_book, told_soundly};
 ghost use Rattle.sw_message.specs.Step.{Folders, IsNodeStep};
 ghost use Rattle.sw_message.specs.declared.message.Msg.{Msg as AMsg};
 ghost use Rattle.sw_message.specs.declared.reply.Reply.{Reply as AReply};
@@ -23,4 +28,13 @@ pub fn step_law()
 /// The greatest of some floors is one of them, and none is above it.
 pub fn highest_law()
     ensures { (floors : List AFloor) → IsHighest floors (highest floors) }
+{}
+
+/// What a link tells by the test of its book is sound, as a link's law asks; a book that passes is told; and with a put of a later stamp
+/// it passes still.
+pub fn sound_law()
+    ensures sound { (cluster : ClusterModel) (learnt : Learnt) → TellsSoundly (Some cluster) (told_soundly cluster.policy learnt) }
+    ensures told { (policy : PolicyModel) (learnt : Learnt) → is_sound_book policy learnt.book ≡ true → told_soundly policy learnt ≡ Some learnt }
+    ensures more { (policy : PolicyModel) (book : List Booked) (booked : Booked) → is_sound_book policy book ≡ true → IsPut policy booked.stamp booked.name booked.object →
+        ((other : Booked) → Contains book other → other.stamp < booked.stamp) → is_sound_book policy (book ++ booked ∷ []) ≡ true }
 {}

@@ -3,7 +3,7 @@
 ghost use Rattle.std.specs.Prelude.{◌≡◌, ℕ, Option, Some};
 ghost use Rattle.sw_ring.specs.Cluster.{ClusterModel};
 ghost use Rattle.sw_message.specs.Learnt.{Learnt};
-ghost use Rattle.sw_message.specs.Running.{CountsLoss, IsOf, Learns};
+ghost use Rattle.sw_message.specs.Running.{CountsLoss, Hears, IsOf, StillTells, TellsSoundly};
 ghost use Rattle.sw_message.specs.Warrant.{IsWarranted};
 ghost use Rattle.sw_message.specs.declared.message.Msg.{Msg as AMsg};
 ghost use Rattle.sw_message.specs.declared.reply.Reply.{Reply as AReply};
@@ -12,6 +12,9 @@ use crate::message::Msg;
 use crate::reply::Reply;
 
 /// Calls devices.
+///
+/// A link may tell what it has learnt: of puts and deletes that were started, and of replies. It may fall silent at any call, and then
+/// tells nothing from then on.
 pub trait Link {
     /// Its cluster, where it has one.
     ghost cluster: { Self → Option ClusterModel };
@@ -31,6 +34,10 @@ pub trait Link {
         requires warranted { (of : ClusterModel) (known : Learnt) → cluster self.old ≡ Some of → learnt self.old ≡ Some known → IsWarranted of known msg.now }
         ensures calls { calls self.old device msg.now result self.new }
         ensures cluster { cluster self.new ≡ cluster self.old }
-        ensures learns { Learns (cluster self.old) (learnt self.old) (learnt self.new) device msg.now result }
+        ensures tells { StillTells (learnt self.old) (learnt self.new) }
+        ensures hears { Hears (cluster self.new) (learnt self.new) device msg.now result }
         ensures counts { CountsLoss (losses self.old) (losses self.new) result };
+
+    /// Whatever it tells is sound, also before the first call.
+    ghost sound: { (link : Self) → TellsSoundly (cluster link) (learnt link) };
 }

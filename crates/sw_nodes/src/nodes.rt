@@ -55,6 +55,7 @@ impl<'a> Nodes<'a> {
         ensures rules { IfOk result (λ all. KeepsRules all.cluster) }
         ensures wants { IfOk result (λ all. all.is_wanting ≡ false) }
         ensures up { IfOk result (λ all. all.down ≡ []) }
+        ensures none_lost { IfOk result (λ all. all.lost ≡ 0) }
         ensures empty { IfOk result (λ all. (device : ℕ) (name : List ℕ) → devices_of all.nodes device name ≡ []) }
     {
         let mut nodes = Vec::new(alloc);
@@ -203,6 +204,8 @@ impl<'a> Link for Nodes<'a> {
     ghost calls = { Calls };
 
     ghost losses = { λ all. all.lost };
+
+    ghost sound = { λ all. tt };
 
     fn call(&mut self, device: u16, msg: &Msg) -> Option<Reply> {
         if self.is_down(device) {

@@ -7,7 +7,7 @@ both : (a b : Bool) → (a && b) ≡ true → (a ≡ true) × (b ≡ true)
 both true b h = (refl, h)
 both false b h = absurd (cc)
 
-pointwise-true : (xs ys : List ℕ) → pointwise nat_eq xs ys ≡ true → xs ≡ ys
+pub pointwise-true : (xs ys : List ℕ) → pointwise nat_eq xs ys ≡ true → xs ≡ ys
 pointwise-true [] [] h = refl
 pointwise-true [] (y ∷ ys) h = absurd (cc)
 pointwise-true (x ∷ xs) [] h = absurd (cc)
@@ -17,7 +17,7 @@ pointwise-true (x ∷ xs) (y ∷ ys) h =
     let rest : xs ≡ ys = pointwise-true xs ys parts.1 in
     cc
 
-pointwise-same : (xs : List ℕ) → pointwise nat_eq xs xs ≡ true
+pub pointwise-same : (xs : List ℕ) → pointwise nat_eq xs xs ≡ true
 pointwise-same [] = refl
 pointwise-same (x ∷ xs) = ap (λ b. b && pointwise nat_eq xs xs) (eq-eqb x x refl) ∙ pointwise-same xs
 

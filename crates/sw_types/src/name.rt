@@ -154,6 +154,14 @@ impl Name {
         Ok(name)
     }
 
+    /// The account.
+    pub fn account(&self) -> &str
+        ensures text { result.now ≡ self.now.account }
+        ensures sound { name_fault self.now ≡ None }
+    {
+        &self.account
+    }
+
     /// Its path, `/ACCOUNT/CONTAINER/OBJECT`.
     pub fn path(&self, alloc: Global) -> Result<Bytes, NoMemory>
         ensures text { IfOk result (λ path. path ≡ path_of self.now) }
