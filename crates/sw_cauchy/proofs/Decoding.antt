@@ -1,29 +1,43 @@
 -- What an inverse of the rows of the generator matrix makes of fragments.
 use Rattle.std.proofs.Common.{◌≡◌, ℕ, zero, suc, ◌+◌, ◌-◌, ◌*◌, ◌/◌, ◌%◌, ◌<◌, ◌≤◌, List, [], length, get_or, refl, sym, ap, ◌∙◌, arith, zero-add}
 use Rattle.std.specs.List.{range_with_len}
+use Rattle.std.proofs.lemmas.Bool.{lt-ltb}
 use Rattle.std.proofs.lemmas.List.{ext_get_or}
 use Rattle.std.proofs.lemmas.List.FromFn.{length-range_with_len, get_or-range_with_len}
 use Rattle.std.proofs.lemmas.Nat.{div-add-mod', div-mul-add, div_below, mod_below}
 use Rattle.sw_words.specs.Bytes.{IsBytes}
+use Rattle.sw_cauchy.specs.Decodes.{Decodes}
+use Rattle.sw_cauchy.specs.Elimination.{HasUnitColumns}
 use Rattle.sw_cauchy.specs.Gather.{shares_of}
-use Rattle.sw_cauchy.specs.Linear.{matrix_entry, IsInverse}
+use Rattle.sw_cauchy.specs.Linear.{matrix_entry}
 use Rattle.sw_cauchy.specs.Matrix.{entry, row_sum}
 use Rattle.sw_cauchy.specs.Rows.{generator_rows, row_times, rows_times}
 use Rattle.sw_cauchy.specs.Share.{Share, AreFragments}
 use Rattle.sw_cauchy.specs.Stripe.{fragment, fragment_width, segment_fragment}
 use Rattle.sw_cauchy.proofs.Fragments.{length-fragment, get_or-fragment, length-segment_fragment, get_or-segment_fragment}
 use Rattle.sw_cauchy.proofs.Parts.{length-parts, get_or-part}
-use Rattle.sw_cauchy.proofs.GeneratorRows.{entry-lt, matrix_entry-generator_rows}
+use Rattle.sw_cauchy.proofs.GeneratorRows.{entry-lt, IsBytes-generator_rows, matrix_entry-generator_rows}
 use Rattle.sw_cauchy.proofs.Inverses.{Undoes, undone, undone_in_row}
 use Rattle.sw_cauchy.proofs.RowSums.{row_sum-same}
 use Rattle.sw_cauchy.proofs.RowTimes.{length-row_times, get_or-row_times}
 use Rattle.sw_cauchy.proofs.Shares.{length-shares_of, share_index, share_byte}
+use Rattle.sw_cauchy.proofs.UnitMatrix.{unit_product}
 
--- what decodes the shares of some indices: an inverse of their rows
-pub record Decodes (k : ℕ) (matrix indices : List ℕ) : Type 0 where
-  pub count : length indices ≡ k
-  pub bytes : IsBytes matrix
-  pub inverse : IsInverse k matrix (generator_rows k indices)
+-- the unit matrix decodes the data fragments
+pub Decodes-unit : (k : ℕ) (unit : List ℕ) → length unit ≡ k * k → IsBytes unit → HasUnitColumns k unit k → Decodes k unit (range_with_len 0 k)
+Decodes-unit k unit square bytes is_unit =
+    let indices = range_with_len 0 k in
+    let count = length-range_with_len 0 k in
+    record {
+      count = count;
+      square = square;
+      bytes = bytes;
+      inverse = λ i j h l.
+          unit_product k unit (generator_rows k indices) is_unit (IsBytes-generator_rows k indices) i j h l
+          ∙ matrix_entry-generator_rows k indices i j (omega (arith, count)) l
+          ∙ ap (λ n. entry k n j) (get_or-range_with_len 0 k i 0 h ∙ zero-add i)
+          ∙ rw (lt-ltb i k h) refl;
+    }
 
 -- the decoding matrix undoes the rows of its indices
 decodes-undoes : (k : ℕ) (matrix indices : List ℕ) → Decodes k matrix indices → Undoes k (matrix_entry k matrix) (λ t. entry k (get_or indices t 0))

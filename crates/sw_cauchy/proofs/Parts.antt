@@ -38,7 +38,13 @@ get_or-part f width (x ∷ xs) (suc i) position wide h l =
 length-put_mid : (a k : ℕ) (xs ys : List ℕ) → a + k ≤ length xs → length ys ≡ k → length (put_mid a k xs ys) ≡ length xs
 length-put_mid a k xs ys h e = simp (length-append, length-take, length-drop) (omega arith)
 
--- after a part is written, in a `Vec` whose parts before it are done
+-- after a part is written, in a slice whose parts before it are done
+pub next_part_of_slice : (i width : ℕ) (items new : List ℕ) → length new ≡ width → i * width + width ≤ length items
+    → take ((i + 1) * width) (put_mid (i * width) ((i + 1) * width - i * width) items new) ≡ take (i * width) items ++ new
+next_part_of_slice i width items new wide within =
+    take-put_mid (i * width) ((i + 1) * width - i * width) items new ((i + 1) * width) (omega arith) (omega arith)
+
+-- and in a `Vec`
 pub next_part : (i width len : ℕ) (items was new : List ℕ) → was ≡ items → length was ≡ len → length new ≡ width → i * width + width ≤ len
     → let after = put_mid (i * width) ((i + 1) * width - i * width) was new in
     take ((i + 1) * width) (take len (after ++ drop (length after) items)) ≡ take (i * width) items ++ new
@@ -46,5 +52,5 @@ next_part i width len items was new e count wide within =
     let after = put_mid (i * width) ((i + 1) * width - i * width) was new in
     let whole : length after ≡ len = length-put_mid (i * width) ((i + 1) * width - i * width) was new (omega arith) (omega arith) ∙ count in
     ap (take ((i + 1) * width)) (take_at after (drop (length after) items) len whole)
-    ∙ take-put_mid (i * width) ((i + 1) * width - i * width) was new ((i + 1) * width) (omega arith) (omega arith)
+    ∙ next_part_of_slice i width was new wide (omega arith)
     ∙ ap (λ xs. take (i * width) xs ++ new) e

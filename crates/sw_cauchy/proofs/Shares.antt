@@ -1,12 +1,13 @@
 -- Shares, and the indices and bytes that they are kept as.
-use Rattle.std.proofs.Common.{◌≡◌, ℕ, zero, suc, ◌+◌, ◌*◌, ◌<◌, ◌≤◌, List, [], ◌∷◌, ◌++◌, length, drop, get_or, refl, sym, ap, ap₂, ◌∙◌, arith, ◌≢◌, vec_capacity, length-append}
-use Rattle.std.specs.List.{All}
+use Rattle.std.proofs.Common.{◌≡◌, ℕ, zero, suc, ◌+◌, ◌*◌, ◌<◌, ◌≤◌, List, [], ◌∷◌, ◌++◌, length, drop, get_or, refl, sym, ap, ap₂, subst, ◌∙◌, arith, ◌≢◌, vec_capacity, length-append}
+use Rattle.std.specs.List.{All, AllPairs}
 use Rattle.std.proofs.lemmas.List.{take_all, take-append-le, drop-append-le, length-drop, get_or-take, get_or-drop}
 use Rattle.std.proofs.lemmas.List.Elements.{All-push}
 use Rattle.std.proofs.lemmas.List.Quantifiers.{all_pairs_push}
 use Rattle.std.proofs.lemmas.Nat.{row_fits}
 use Rattle.sw_cauchy.specs.declared.code.Code.{Code}
 use Rattle.sw_cauchy.specs.declared.gather.Gather.TheInside.{Inside}
+use Rattle.sw_cauchy.specs.Decodes.{Decodes}
 use Rattle.sw_cauchy.specs.Gather.{shares_of, gather_model, IsGather}
 use Rattle.sw_cauchy.specs.Share.{Share, GatherModel}
 
@@ -56,6 +57,12 @@ full_count inside gather view enough = omega (arith, share_count inside gather v
 pub full_bytes : (inside : Inside) (gather : GatherModel) → gather_model inside ≡ gather → IsGather inside → length gather.shares ≡ gather.k → length inside.bytes.items ≡ inside.code.k * inside.width
 full_bytes inside gather view kept enough = kept.filled ∙ ap (λ n. n * inside.width) (full_count inside gather view enough)
 
+-- and what is kept decodes them
+pub full_decodes : (inside : Inside) (gather : GatherModel) → gather_model inside ≡ gather → IsGather inside → length gather.shares ≡ gather.k
+    → Decodes inside.code.k inside.decoder.matrix.items inside.indices.items
+full_decodes inside gather view kept enough =
+    subst (λ (xs : List ℕ). Decodes inside.code.k inside.decoder.matrix.items xs) (kept.follows (full_count inside gather view enough)) kept.decodes
+
 -- ---- a share is added
 
 -- a share may be added to what was gathered
@@ -88,7 +95,16 @@ pub room_for_bytes : (before : Inside) (index : ℕ) (fragment : List ℕ) → M
 room_for_bytes before index fragment may =
     omega (arith, may.kept.filled, may.kept.byte_room, may.width, row_fits (length before.indices.items) before.width before.code.k before.width may.room (omega arith))
 
--- its index and its bytes are at the end
+-- with it the indices stay below the number of fragments
+pub added_below : (before : Inside) (index : ℕ) (fragment : List ℕ) → MayAdd before index fragment → All (λ i. i < before.code.k + before.code.m) (before.indices.items ++ index ∷ [])
+added_below before index fragment may =
+    All-push (λ i. i < before.code.k + before.code.m) before.indices.items index may.kept.below may.below
+
+-- and apart
+pub added_distinct : (before : Inside) (index : ℕ) (fragment : List ℕ) → MayAdd before index fragment → AllPairs (λ s t. s ≢ t) (before.indices.items ++ index ∷ [])
+added_distinct before index fragment may = all_pairs_push (λ s t. s ≢ t) before.indices.items index may.kept.distinct may.new
+
+-- its index and its bytes are at the end, and what decodes them is there
 pub record IsAdded (before after : Inside) (index : ℕ) (fragment : List ℕ) : Type 0 where
   pub code : after.code ≡ before.code
   pub width : after.width ≡ before.width
@@ -96,6 +112,8 @@ pub record IsAdded (before after : Inside) (index : ℕ) (fragment : List ℕ) :
   pub bytes : after.bytes.items ≡ before.bytes.items ++ fragment
   pub index_room : vec_capacity before.indices ≤ vec_capacity after.indices
   pub byte_room : vec_capacity before.bytes ≤ vec_capacity after.bytes
+  pub decodes : Decodes before.code.k after.decoder.matrix.items after.decoder.indices.items
+  pub follows : length after.indices.items ≡ before.code.k → after.decoder.indices.items ≡ after.indices.items
 
 -- what is kept stays in order
 pub IsGather-added : (before after : Inside) (index : ℕ) (fragment : List ℕ) → MayAdd before index fragment → IsAdded before after index fragment → IsGather after
@@ -107,10 +125,12 @@ IsGather-added before after index fragment may added =
       filled =
           ap length added.bytes ∙ length-append before.bytes.items fragment
           ∙ omega (arith, may.kept.filled, may.width) ∙ sym (ap₂ (λ n w. n * w) longer added.width);
-      below = rw (added.code, added.indices) (All-push (λ i. i < before.code.k + before.code.m) before.indices.items index may.kept.below may.below);
-      distinct = rw added.indices (all_pairs_push (λ s t. s ≢ t) before.indices.items index may.kept.distinct may.new);
+      below = rw (added.code, added.indices) (added_below before index fragment may);
+      distinct = rw added.indices (added_distinct before index fragment may);
       index_room = omega (arith, may.kept.index_room);
       byte_room = omega (arith, may.kept.byte_room, ap₂ (λ n w. n * w) k added.width);
+      decodes = rw added.code added.decodes;
+      follows = λ full. added.follows (full ∙ k);
     }
 
 -- the share is the last one gathered

@@ -1,13 +1,13 @@
 //! Fragments gathered to decode a segment.
 
-ghost use Rattle.std.specs.Prelude.{◌≡◌, ◌≢◌, ◌+◌, ◌*◌, ◌<◌, List, ℕ, [], ◌∷◌, ◌++◌, IfOk, length, take};
+ghost use Rattle.std.specs.Prelude.{◌≡◌, ◌≢◌, ◌+◌, ◌*◌, ◌<◌, List, ℕ, [], ◌∷◌, ◌++◌, IfOk, IfErr, length, take};
 ghost use Rattle.std.specs.List.{All};
 ghost use Rattle.sw_words.specs.Bytes.{IsBytes};
 ghost use Rattle.sw_cauchy.specs.Share.{AreFragments};
 ghost use Rattle.sw_cauchy.specs.Stripe.{fragment, fragment_width};
 
 use crate::Code;
-use crate::decode::decode_matrix;
+use crate::decode::Decoder;
 use crate::rows::{matrix_times, row_times};
 use std::alloc::Global;
 use std::marker::Model;
@@ -20,6 +20,7 @@ pub struct Gather {
     width: usize,
     indices: Vec<u32>,
     bytes: Vec<u8>,
+    decoder: Decoder,
 }
 
 impl Model for Gather {
@@ -43,12 +44,28 @@ impl Gather {
         let length = count.checked_mul(width).ok_or(NoMemory)?;
         let indices = Vec::with_capacity(alloc, count)?;
         let bytes = Vec::with_capacity(alloc, length)?;
+        let decoder = Decoder::new(alloc, code)?;
         Ok(Gather {
             code,
             width,
             indices,
             bytes,
+            decoder,
         })
+    }
+
+    /// Begins anew, for fragments of so many bytes of another segment. Where memory is wanted, nothing changes.
+    pub fn again(&mut self, width: usize) -> Result<(), NoMemory>
+        ensures fresh { IfOk result (λ _. self.new ≡ record { k = self.old.k; m = self.old.m; width = width; shares = [] }) }
+        ensures unchanged { IfErr result (λ _. self.new ≡ self.old) }
+    {
+        let count = self.code.k as usize;
+        let length = count.checked_mul(width).ok_or(NoMemory)?;
+        self.bytes.reserve(length.saturating_sub(self.bytes.len()))?;
+        self.bytes.clear();
+        self.indices.clear();
+        self.width = width;
+        Ok(())
     }
 
     /// Adds a fragment. It takes no memory.
@@ -61,6 +78,7 @@ impl Gather {
     {
         self.indices.push(index).unwrap();
         self.bytes.extend_from_slice(fragment).unwrap();
+        self.decoder.follow(self.code, &self.indices);
     }
 
     /// The segment of so many bytes whose fragments were gathered.
@@ -72,9 +90,9 @@ impl Gather {
             AreFragments self.now.k self.now.width pieces self.now.shares →
             IfOk result (λ segment. segment ≡ take segment_length pieces) }
     {
-        let matrix = decode_matrix(alloc, self.code, &self.indices)?;
         let k = self.code.k as usize;
-        let mut pieces = matrix_times(alloc, k, &matrix, &self.bytes, self.width)?;
+        let matrix = &self.decoder.matrix;
+        let mut pieces = matrix_times(alloc, k, matrix, &self.bytes, self.width)?;
         pieces.truncate(segment_length);
         Ok(Bytes::from(pieces))
     }
@@ -88,11 +106,10 @@ impl Gather {
             AreFragments self.now.k self.now.width pieces self.now.shares →
             IfOk result (λ bytes. bytes ≡ fragment self.now.k self.now.width pieces index) }
     {
-        let matrix = decode_matrix(alloc, self.code, &self.indices)?;
         // The row that makes the fragment from the shares is that fragment of the matrix's rows.
         let mut room = [0; Policy::GREATEST_TOTAL as usize];
         let row = &mut room[..self.code.k as usize];
-        self.code.write_fragment(row, &matrix, index);
+        self.code.write_fragment(row, &self.decoder.matrix, index);
         row_times(alloc, row, &self.bytes, self.width)
     }
 }

@@ -1,44 +1,39 @@
 //! The inverse of a square matrix over the field, by elimination: operations on the rows make the matrix the unit
 //! matrix, and the unit matrix the inverse. A matrix of k rows and columns is a slice of its rows, one after another.
 
-ghost use Rattle.std.specs.Prelude.{◌≡◌, ◌≢◌, ℕ, ◌*◌, ◌+◌, ◌<◌, ◌≤◌, IfOk, length};
+ghost use Rattle.std.specs.Prelude.{◌≡◌, ◌≢◌, ℕ, ◌*◌, ◌+◌, ◌<◌, ◌≤◌, length};
 ghost use Rattle.sw_words.specs.Bytes.{IsBytes};
 ghost use Rattle.sw_cauchy.specs.Elimination.{HasUnitColumns, IsRowAdded, IsRowScaled, IsRowOperation};
 ghost use Rattle.sw_cauchy.specs.Linear.{AreIndependent, IsInverse, matrix_entry};
 
-use std::alloc::Global;
 use sw_gf256::{inv, mul, mul_acc};
-use sw_types::NoMemory;
 
-/// The inverse of a matrix whose rows are independent.
-pub(crate) fn invert(alloc: Global, matrix: &[u8], k: usize) -> Result<Vec<u8>, NoMemory>
+/// Writes the inverse of a matrix whose rows are independent. The matrix itself becomes the unit matrix.
+pub(crate) fn invert(matrix: &mut [u8], inverse: &mut [u8], k: usize)
     requires small { k ≤ 256 }
-    requires square { length matrix.now ≡ k * k }
-    requires independent { AreIndependent k matrix.now }
-    ensures square { IfOk result (λ inverse. length inverse.items ≡ k * k) }
-    ensures bytes { IfOk result (λ inverse. IsBytes inverse.items) }
-    ensures inverse { IfOk result (λ inverse. IsInverse k inverse.items matrix.now) }
+    requires square { length matrix.old ≡ k * k }
+    requires inverse_square { length inverse.old ≡ k * k }
+    requires independent { AreIndependent k matrix.old }
+    ensures bytes { IsBytes inverse.new }
+    ensures inverse { IsInverse k inverse.new matrix.old }
 {
-    let mut current = matrix.to_vec(alloc)?;
-    let mut companion = unit_matrix(alloc, k)?;
+    write_unit_matrix(inverse, k);
     for column in 0..k {
-        eliminate(&mut current, &mut companion, k, column);
+        eliminate(matrix, inverse, k, column);
     }
-    Ok(companion)
 }
 
-// The matrix of ones on the diagonal and zeros elsewhere.
-fn unit_matrix(alloc: Global, k: usize) -> Result<Vec<u8>, NoMemory>
+/// Writes the matrix of ones on the diagonal and zeros elsewhere.
+pub(crate) fn write_unit_matrix(unit: &mut [u8], k: usize)
     requires small { k ≤ 256 }
-    ensures square { IfOk result (λ unit. length unit.items ≡ k * k) }
-    ensures bytes { IfOk result (λ unit. IsBytes unit.items) }
-    ensures unit { IfOk result (λ unit. HasUnitColumns k unit.items k) }
+    requires square { length unit.old ≡ k * k }
+    ensures bytes { IsBytes unit.new }
+    ensures unit { HasUnitColumns k unit.new k }
 {
-    let mut unit = vec![in alloc; 0; k * k]?;
+    unit.fill(0);
     for row in 0..k {
         unit[row * k + row] = 1;
     }
-    Ok(unit)
 }
 
 // Makes one more column that of the unit matrix.

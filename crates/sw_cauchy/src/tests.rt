@@ -1,6 +1,6 @@
 //! Worked segments, and segments decoded from any k of their fragments.
 
-ghost use Rattle.std.specs.Prelude.{◌≡◌, ◌+◌, ◌<◌, IfOk, length};
+ghost use Rattle.std.specs.Prelude.{◌≡◌, ◌+◌, ◌<◌, [], IfOk, length};
 
 use crate::{Code, Gather};
 use std::alloc::Global;
@@ -152,23 +152,52 @@ fn expect_isal(
     assert_eq!(rt; fragments.len(), (k + m) as usize);
     let encoded = code.encode_stripe(alloc, segment)?;
     assert_eq!(rt; encoded.as_slice(), fragments);
-    expect_decoded(rt, alloc, code, segment, fragments, k, 1)
+    let mut gather = Gather::new(alloc, code, 0)?;
+    expect_decoded(rt, alloc, &mut gather, code, segment, fragments, k, 1)
 }
 
+// Segments of several widths, decoded through one gather.
 fn expect_code(rt: &impl Abort, alloc: Global, k: u32, m: u32) -> Result<(), Fail> {
     let code = code_of(k, m)?;
-    expect_segment(rt, alloc, code, b"")?;
-    expect_segment(rt, alloc, code, b"a")?;
-    expect_segment(rt, alloc, code, &TEXT[..3 * code.k as usize + 1])
+    let mut gather = Gather::new(alloc, code, 2)?;
+    expect_segment(rt, alloc, &mut gather, code, b"")?;
+    expect_segment(rt, alloc, &mut gather, code, b"a")?;
+    expect_segment(
+        rt,
+        alloc,
+        &mut gather,
+        code,
+        &TEXT[..3 * code.k as usize + 1],
+    )?;
+    expect_segment(rt, alloc, &mut gather, code, b"of")
 }
 
-// Decodes from the data fragments, and from three choices that begin with parity fragments and differ in their order.
-fn expect_segment(rt: &impl Abort, alloc: Global, code: Code, segment: &[u8]) -> Result<(), Fail> {
+// Decodes from the data fragments, from these in the reverse order, and from three choices that begin with parity
+// fragments and differ in their order. The first choice is the last one of the segment before.
+fn expect_segment(
+    rt: &impl Abort,
+    alloc: Global,
+    gather: &mut Gather,
+    code: Code,
+    segment: &[u8],
+) -> Result<(), Fail>
+    requires data { gather.old.k ≡ code.k }
+    requires parity { gather.old.m ≡ code.m }
+    ensures data { IfOk result (λ _. gather.new.k ≡ code.k) }
+    ensures parity { IfOk result (λ _. gather.new.m ≡ code.m) }
+{
     let fragments = code.encode_stripe(alloc, segment)?;
     let total = code.k + code.m;
     assert_eq!(rt; fragments.len(), total as usize);
-    for (first, step) in [(0, 1), (code.k, 1), (code.k, 11), (total - 1, 13)] {
-        expect_decoded(rt, alloc, code, segment, &fragments, first, step)?;
+    for (first, step) in [
+        (total - 1, 13),
+        (0, 1),
+        (code.k - 1, total - 1),
+        (code.k, 1),
+        (code.k, 11),
+        (total - 1, 13),
+    ] {
+        expect_decoded(rt, alloc, gather, code, segment, &fragments, first, step)?;
     }
     Ok(())
 }
@@ -177,18 +206,24 @@ fn expect_segment(rt: &impl Abort, alloc: Global, code: Code, segment: &[u8]) ->
 fn expect_decoded(
     rt: &impl Abort,
     alloc: Global,
+    gather: &mut Gather,
     code: Code,
     segment: &[u8],
     fragments: &[Bytes],
     first: u32,
     step: u32,
 ) -> Result<(), Fail>
+    requires data { gather.old.k ≡ code.k }
+    requires parity { gather.old.m ≡ code.m }
     requires fragments { length fragments.now ≡ code.k + code.m }
     requires first { first < 32 }
     requires step { step < 32 }
+    ensures data { IfOk result (λ _. gather.new.k ≡ code.k) }
+    ensures parity { IfOk result (λ _. gather.new.m ≡ code.m) }
 {
     let width = code.fragment_width(segment.len());
-    let gather = gathered(rt, alloc, code, width, fragments, first, step)?;
+    gather.again(width)?;
+    gather_fragments(rt, alloc, gather, code, width, fragments, first, step)?;
     let decoded = gather.finish(alloc, segment.len())?;
     assert_eq!(rt; decoded.as_slice(), segment);
     for (index, fragment) in fragments.iter().enumerate() {
@@ -199,24 +234,28 @@ fn expect_decoded(
 }
 
 // Gathers k fragments, whose indices lie `step` apart.
-fn gathered(
+fn gather_fragments(
     rt: &impl Abort,
     alloc: Global,
+    gather: &mut Gather,
     code: Code,
     width: usize,
     fragments: &[Bytes],
     first: u32,
     step: u32,
-) -> Result<Gather, Fail>
+) -> Result<(), Fail>
+    requires data { gather.old.k ≡ code.k }
+    requires parity { gather.old.m ≡ code.m }
+    requires width { gather.old.width ≡ width }
+    requires empty { gather.old.shares ≡ [] }
     requires fragments { length fragments.now ≡ code.k + code.m }
     requires first { first < 32 }
     requires step { step < 32 }
-    ensures data { IfOk result (λ gather. gather.k ≡ code.k) }
-    ensures parity { IfOk result (λ gather. gather.m ≡ code.m) }
-    ensures width { IfOk result (λ gather. gather.width ≡ width) }
-    ensures enough { IfOk result (λ gather. length gather.shares ≡ code.k) }
+    ensures data { IfOk result (λ _. gather.new.k ≡ code.k) }
+    ensures parity { IfOk result (λ _. gather.new.m ≡ code.m) }
+    ensures width { IfOk result (λ _. gather.new.width ≡ width) }
+    ensures enough { IfOk result (λ _. length gather.new.shares ≡ code.k) }
 {
-    let mut gather = Gather::new(alloc, code, width)?;
     let mut taken = Vec::with_capacity(alloc, code.k as usize)?;
     for t in 0..code.k {
         let index = (first + t * step) % (code.k + code.m);
@@ -226,5 +265,5 @@ fn gathered(
         gather.add(index, fragment);
         taken.push(index)?;
     }
-    Ok(gather)
+    Ok(())
 }

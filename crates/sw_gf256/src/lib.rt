@@ -3,6 +3,7 @@
 #![tactic(auto)]
 
 mod field;
+mod lanes;
 mod laws;
 
 pub use crate::field::{inv, mul, mul_acc};

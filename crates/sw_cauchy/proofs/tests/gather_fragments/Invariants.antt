@@ -1,6 +1,6 @@
 use Rattle.std.proofs.Common.{◌≡◌, length, map}
 use Rattle.sw_cauchy.specs.Share.{Share}
-use Rattle.sw_cauchy.proofs.tests.gathered.Given as goal
+use Rattle.sw_cauchy.proofs.tests.gather_fragments.Given as goal
 
 -- the shares so far have the indices that are taken
 abbrev pub invariant-loop-t : goal.invariant-loop-t

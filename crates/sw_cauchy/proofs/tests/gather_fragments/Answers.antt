@@ -4,7 +4,7 @@ use Rattle.std.proofs.lemmas.Bool.Decides.{Decides-eqb}
 use Rattle.std.proofs.lemmas.List.{length-map, get_or-map}
 use Rattle.std.proofs.lemmas.List.Elements.{contains_decides}
 use Rattle.sw_cauchy.specs.Share.{Share}
-use Rattle.sw_cauchy.proofs.tests.gathered.Goals as goal
+use Rattle.sw_cauchy.proofs.tests.gather_fragments.Goals as goal
 
 -- no share has an index that is not taken
 new_index : (shares : List Share) (taken : List ℕ) (index : ℕ) (r : Bool) → taken ≡ map (λ (share : Share). share.index) shares → IsAnyAnswer (λ y t. (y == index) ≡ t) taken r → r ≡ false
