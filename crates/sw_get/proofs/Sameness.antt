@@ -4,11 +4,8 @@ use Rattle.std.specs.Prelude.{if◌then◌else◌}
 use Rattle.std.proofs.lemmas.List.Elements.{All-nil}
 use Rattle.sw_archive.specs.Archive.{ArchiveModel, IsSound}
 use Rattle.sw_archive.specs.Assemble.{AreTogether, IsNext}
-use Rattle.sw_archive.proofs.Archives.{one_archive}
-use Rattle.sw_archive.proofs.Faults.{no_fault, one_fault}
 use Rattle.sw_archive.proofs.Gatherings.{AreTogether-push}
-use Rattle.sw_archive.proofs.Objects.{no_archive, one_body}
-use Rattle.sw_message.specs.Spoil.{IsNamed, IsSpoilOf}
+use Rattle.sw_message.specs.Spoil.{IsNamed}
 use Rattle.sw_message.specs.Transcript.{Gave, Step, Told}
 use Rattle.sw_message.specs.declared.message.Msg.{Msg}
 use Rattle.sw_message.specs.declared.message.Msg.TheVariants as message
@@ -17,39 +14,32 @@ use Rattle.sw_message.specs.declared.reply.Reply.{Reply}
 use Rattle.sw_message.specs.declared.reply.Reply.TheVariants as reply
 use Rattle.sw_message.specs.declared.sent.Sent.{Sent}
 use Rattle.sw_message.specs.declared.spoil.Foreign.TheVariants as foreign
-use Rattle.sw_message.specs.declared.spoil.Spoil.{Spoil}
 use Rattle.sw_message.specs.declared.spoil.Spoil.TheVariants as spoil
-use Rattle.sw_message.proofs.Spoils.{FaultLaw, asked_or_spoil, one_spoil_of}
 use Rattle.sw_get.specs.Get.{AreTurns, Begun, Hears, IsMeant, Round, Sends, Turn, facts_in, facts_of, is_first, round_in, wanted}
 use Rattle.sw_get.specs.Meaning.{Brings, IsFetched, IsRead, IsWanted, Lacks, Lists, Meaning, Misses, Wanted}
-use Rattle.sw_gather.specs.Gathered.{AreRight, AreWrong, Strays}
-use Rattle.sw_gather.proofs.Joins.{enough_from_k}
+use Rattle.sw_gather.proofs.Readings as reading
+use Rattle.sw_gather.proofs.Readings.{Reading, Reads, one-reading}
 use Rattle.sw_get.proofs.Meanings.{asked_cases}
 use Rattle.sw_get.proofs.Turns.{all, now}
-
-law : FaultLaw
-law = record { not_both = no_fault; one = one_fault }
 
 -- ---- what bytes mean
 
 module _ (wanted : Wanted) (others : List ArchiveModel) (index : ℕ) (bytes : List ℕ) where
-  abbrev Brought : Meaning → Type 0
-  Brought meaning = (archive : ArchiveModel) × (meaning ≡ Brings archive) × IsWanted wanted index bytes archive × IsNext others archive × AreRight wanted.policy (others ++ archive ∷ [])
+  abbrev as_meaning : Reading → Meaning
+  as_meaning (reading.Brings archive) = Brings archive
+  as_meaning (reading.Spoils how) = Misses (miss.Spoiled how)
 
-  abbrev Strayed : Meaning → Type 0
-  Strayed meaning = (archive : ArchiveModel) × (meaning ≡ Misses (miss.Spoiled (spoil.Foreign foreign.Object))) × IsWanted wanted index bytes archive × Strays wanted.policy others archive
+  abbrev ReadsAs : Meaning → Type 0
+  ReadsAs meaning = (one : Reading) × (meaning ≡ as_meaning one) × Reads (IsNamed wanted.name) wanted.policy wanted.stamp others index bytes one
 
-  abbrev Spoilt : Meaning → Type 0
-  Spoilt meaning = (how : Spoil) × (meaning ≡ Misses (miss.Spoiled how)) × IsSpoilOf (IsNamed wanted.name) wanted.policy wanted.stamp index bytes how
-
-  view : (meaning : Meaning) → IsRead wanted others index bytes meaning → Brought meaning ⊎ (Strayed meaning ⊎ Spoilt meaning)
-  view (Brings archive) is = inl (archive, refl, is.0, is.1, is.2)
-  view (Misses (miss.Spoiled (spoil.Fault fault))) is = inr (inr (spoil.Fault fault, refl, is))
-  view (Misses (miss.Spoiled (spoil.Foreign foreign.Name))) is = inr (inr (spoil.Foreign foreign.Name, refl, is))
-  view (Misses (miss.Spoiled (spoil.Foreign foreign.Stamp))) is = inr (inr (spoil.Foreign foreign.Stamp, refl, is))
-  view (Misses (miss.Spoiled (spoil.Foreign foreign.Index))) is = inr (inr (spoil.Foreign foreign.Index, refl, is))
-  view (Misses (miss.Spoiled (spoil.Foreign foreign.Code))) is = inr (inr (spoil.Foreign foreign.Code, refl, is))
-  view (Misses (miss.Spoiled (spoil.Foreign foreign.Object))) is = inr (inl (is.0, refl, is.1, is.2))
+  view : (meaning : Meaning) → IsRead wanted others index bytes meaning → ReadsAs meaning
+  view (Brings archive) is = (reading.Brings archive, refl, is)
+  view (Misses (miss.Spoiled (spoil.Fault fault))) is = (reading.Spoils (spoil.Fault fault), refl, is)
+  view (Misses (miss.Spoiled (spoil.Foreign foreign.Name))) is = (reading.Spoils (spoil.Foreign foreign.Name), refl, is)
+  view (Misses (miss.Spoiled (spoil.Foreign foreign.Stamp))) is = (reading.Spoils (spoil.Foreign foreign.Stamp), refl, is)
+  view (Misses (miss.Spoiled (spoil.Foreign foreign.Index))) is = (reading.Spoils (spoil.Foreign foreign.Index), refl, is)
+  view (Misses (miss.Spoiled (spoil.Foreign foreign.Code))) is = (reading.Spoils (spoil.Foreign foreign.Code), refl, is)
+  view (Misses (miss.Spoiled (spoil.Foreign foreign.Object))) is = (reading.Spoils (spoil.Foreign foreign.Object), refl, is)
   view (Misses miss.NoReply) is = absurd is
   view (Misses miss.DiskFault) is = absurd is
   view (Misses (miss.NoSpace need free)) is = absurd is
@@ -60,43 +50,11 @@ module _ (wanted : Wanted) (others : List ArchiveModel) (index : ℕ) (bytes : L
   view (Lists listing) is = absurd is
   view (Lacks listing) is = absurd is
 
-  module _ (together : AreTogether others) where
-    -- archives tell their body's MD5, or another one, and not both
-    right_or_wrong : (archive : ArchiveModel) → IsWanted wanted index bytes archive → IsNext others archive → AreRight wanted.policy (others ++ archive ∷ []) → AreWrong wanted.policy (others ++ archive ∷ []) → ⊥
-    right_or_wrong archive is next right wrong =
-        let these : List ArchiveModel = others ++ archive ∷ [] in
-        let told = right wrong.enough in
-        let some : 0 < length these = omega (arith, length-append others (archive ∷ [])) in
-        let enough = enough_from_k others archive next (wrong.enough ∙ sym is.1.code.0) in
-        let all_together = AreTogether-push others archive together is.0.sound next in
-        let body = one_body these told.0.body wrong.other.body enough all_together told.2.decoded wrong.other.decoded in
-        let md5 = rw body at told.1.body_md5 in
-        wrong.other.differs (wrong.other.tells 0 no_archive some ∙ sym (told.2.body_md5 0 no_archive some) ∙ md5 ∙ sym wrong.other.computes)
-
-    brought_or_strayed : (a b : ArchiveModel) → IsWanted wanted index bytes a → IsNext others a → AreRight wanted.policy (others ++ a ∷ []) → IsWanted wanted index bytes b → Strays wanted.policy others b → ⊥
-    brought_or_strayed a b is next right other strays =
-        elim (subst (Strays wanted.policy others) (one_archive bytes b a other.0 is.0) strays) [
-          | inl never ↦ never next
-          | inr wrong ↦ right_or_wrong a is next right wrong.1
-        ]
-
-    wanted_or_spoilt : (archive : ArchiveModel) (how : Spoil) → IsWanted wanted index bytes archive → IsSpoilOf (IsNamed wanted.name) wanted.policy wanted.stamp index bytes how → ⊥
-    wanted_or_spoilt archive how is spoils = asked_or_spoil law (IsNamed wanted.name) wanted.policy wanted.stamp index bytes archive is.0 is.1 how spoils
-
-    one_of : (a b : Meaning) → Brought a ⊎ (Strayed a ⊎ Spoilt a) → Brought b ⊎ (Strayed b ⊎ Spoilt b) → a ≡ b
-    one_of a b (inl x) (inl y) = x.1 ∙ ap Brings (one_archive bytes x.0 y.0 x.2.0 y.2.0) ∙ sym y.1
-    one_of a b (inl x) (inr (inl y)) = absurd (brought_or_strayed x.0 y.0 x.2 x.3 x.4 y.2 y.3)
-    one_of a b (inl x) (inr (inr y)) = absurd (wanted_or_spoilt x.0 y.0 x.2 y.2)
-    one_of a b (inr (inl x)) (inl y) = absurd (brought_or_strayed y.0 x.0 y.2 y.3 y.4 x.2 x.3)
-    one_of a b (inr (inl x)) (inr (inl y)) = x.1 ∙ sym y.1
-    one_of a b (inr (inl x)) (inr (inr y)) = absurd (wanted_or_spoilt x.0 y.0 x.2 y.2)
-    one_of a b (inr (inr x)) (inl y) = absurd (wanted_or_spoilt y.0 x.0 y.2 x.2)
-    one_of a b (inr (inr x)) (inr (inl y)) = absurd (wanted_or_spoilt y.0 x.0 y.2 x.2)
-    one_of a b (inr (inr x)) (inr (inr y)) =
-        x.1 ∙ ap (λ how. Misses (miss.Spoiled how)) (one_spoil_of law (IsNamed wanted.name) wanted.policy wanted.stamp index bytes x.0 y.0 x.2 y.2) ∙ sym y.1
-
-    one_read : (a b : Meaning) → IsRead wanted others index bytes a → IsRead wanted others index bytes b → a ≡ b
-    one_read a b x y = one_of a b (view a x) (view b y)
+  one_read : AreTogether others → (a b : Meaning) → IsRead wanted others index bytes a → IsRead wanted others index bytes b → a ≡ b
+  one_read together a b x y =
+      let one = view a x in
+      let other = view b y in
+      one.1 ∙ ap as_meaning (one-reading (IsNamed wanted.name) wanted.policy wanted.stamp others index bytes together one.0 other.0 one.2 other.2) ∙ sym other.1
 
 -- ---- what answers mean
 

@@ -2,12 +2,12 @@
 
 ghost use Rattle.std.specs.Prelude.{◌≡◌, ℕ, List};
 ghost use Rattle.sw_hashdir.specs.declared.floor.Floor.{Floor as AFloor};
-ghost use Rattle.sw_message.specs.Transcript.{Hand, IsRun, Step};
+ghost use Rattle.sw_message.specs.Transcript.{Hand, IsFirst, IsRun, Step};
 ghost use Rattle.sw_message.specs.declared.miss.Miss.{Miss as AMiss};
 ghost use Rattle.sw_message.specs.declared.sent.Sent.{Sent as ASent};
 ghost use Rattle.sw_sync.specs.Answers.{AllAnswered};
 ghost use Rattle.sw_sync.specs.Causes.{IsDone, IsNewer, IsTooFew, IsUnanswered};
-ghost use Rattle.sw_sync.specs.Sends.{IsFirst, MaySend};
+ghost use Rattle.sw_sync.specs.Sends.{MaySend};
 ghost use Rattle.sw_sync.specs.Sync.{Begun, IsBegun, IsEnd, IsNext};
 ghost use Rattle.sw_sync.specs.declared.sync_end.Failure.{Failure as AFailure};
 ghost use Rattle.sw_sync.specs.declared.sync_end.SyncEnd.{SyncEnd as ASyncEnd};
