@@ -1,11 +1,13 @@
 -- An answer has one meaning, and a transcript one list of turns.
 use Rattle.std.proofs.Common.{◌≡◌, inl, inr, ◌⊎◌, ℕ, ◌<◌, ◌≤◌, ◌++◌, Bool, true, false, List, [], ◌∷◌, length, length-append, append-nil, Option, Some, None, refl, sym, ap, subst, ◌∙◌, arith}
 use Rattle.std.specs.Prelude.{if◌then◌else◌}
-use Rattle.std.proofs.lemmas.List.Elements.{All-nil}
+use Rattle.std.specs.List.{All}
+use Rattle.std.proofs.lemmas.List.Elements.{All-nil, All-push}
+use Rattle.sw_types.specs.Policy.{PolicyModel}
 use Rattle.sw_archive.specs.Archive.{ArchiveModel, IsSound}
 use Rattle.sw_archive.specs.Assemble.{AreTogether, IsNext}
-use Rattle.sw_archive.proofs.Gatherings.{AreTogether-push}
-use Rattle.sw_message.specs.Spoil.{IsNamed}
+use Rattle.sw_archive.proofs.Gatherings.{AreTogether-push, none_together}
+use Rattle.sw_message.specs.Spoil.{HasCode, IsNamed}
 use Rattle.sw_message.specs.Transcript.{Gave, Step, Told}
 use Rattle.sw_message.specs.declared.message.Msg.{Msg}
 use Rattle.sw_message.specs.declared.message.Msg.TheVariants as message
@@ -15,7 +17,8 @@ use Rattle.sw_message.specs.declared.reply.Reply.TheVariants as reply
 use Rattle.sw_message.specs.declared.sent.Sent.{Sent}
 use Rattle.sw_message.specs.declared.spoil.Foreign.TheVariants as foreign
 use Rattle.sw_message.specs.declared.spoil.Spoil.TheVariants as spoil
-use Rattle.sw_get.specs.Get.{AreTurns, Begun, Hears, IsMeant, Round, Sends, Turn, facts_in, facts_of, is_first, round_in, wanted}
+use Rattle.sw_message.specs.declared.target.Target.{Target}
+use Rattle.sw_get.specs.Get.{AreTurns, Begun, Hears, IsMeant, Round, Sends, Turn, facts_in, facts_of, is_first, round_in, source_of, wanted}
 use Rattle.sw_get.specs.Meaning.{Brings, IsFetched, IsRead, IsWanted, Lacks, Lists, Meaning, Misses, Wanted}
 use Rattle.sw_gather.proofs.Readings as reading
 use Rattle.sw_gather.proofs.Readings.{Reading, Reads, one-reading}
@@ -121,16 +124,22 @@ module _ (wanted : Wanted) (others : List ArchiveModel) (index : ℕ) (archive :
   fragment_of (Some (reply.NoSpace need free)) is = absurd (cc)
   fragment_of (Some reply.NoMemory) is = absurd (cc)
 
--- so it can stand beside those that were brought before it
-module _ (begun : Begun) (turns : List Turn) (archive : ArchiveModel) (answer : Option Reply) where
-  abbrev Beside : Type 0
-  Beside = IsSound archive × IsNext (facts_in begun turns).archives archive
+-- so it can stand beside those that were brought before it, and is of the policy's code
+pub record IsBeside (policy : PolicyModel) (others : List ArchiveModel) (archive : ArchiveModel) (device : ℕ) (msg : Msg) : Type 0 where
+  pub sound : IsSound archive
+  pub next : IsNext others archive
+  pub code : HasCode policy archive
+  pub one_source : length (source_of device msg) ≡ 1
 
-  brought_beside : (msg : Msg) → IsMeant begun turns msg answer (Brings archive) → Beside
+module _ (begun : Begun) (turns : List Turn) (archive : ArchiveModel) (answer : Option Reply) (device : ℕ) where
+  abbrev Beside : Msg → Type 0
+  Beside msg = IsBeside begun.cluster.policy (facts_in begun turns).archives archive device msg
+
+  brought_beside : (msg : Msg) → IsMeant begun turns msg answer (Brings archive) → Beside msg
   brought_beside (message.Ask place) is = elim (asked_cases answer) [ inl lists ↦ absurd (cc (lists.1)) | inr misses ↦ absurd (cc (misses.1)) ]
   brought_beside (message.Fetch place stamp index) is =
       let sent = fragment_of (wanted begun stamp) (facts_in begun turns).archives index archive answer is in
-      (sent.spelled.0.sound, sent.next)
+      record { sound = sent.spelled.0.sound; next = sent.next; code = sent.spelled.1.code; one_source = refl }
   brought_beside (message.PutFrag place stamp index bytes) is = absurd is
   brought_beside (message.Commit place stamp index) is = absurd is
   brought_beside (message.Delete place stamp) is = absurd is
@@ -139,48 +148,63 @@ module _ (begun : Begun) (turns : List Turn) (archive : ArchiveModel) (answer : 
   brought_beside (message.Suffixes part) is = absurd is
   brought_beside (message.Places part) is = absurd is
 
--- ---- the archives of a round stand beside one another
+-- ---- the archives of a round
 
-none_together : AreTogether []
-none_together = record {
-  sound = All-nil IsSound;
-  alike = λ i j d less within. absurd (omega arith);
-  distinct = λ i j d less within. absurd (omega arith);
-  few = All-nil (λ (archive : ArchiveModel). 0 ≤ archive.k);
-}
+-- they stand beside one another and are of the policy's code, one for each source that brought one
+pub record AreBrought (policy : PolicyModel) (sources : List Target) (archives : List ArchiveModel) : Type 0 where
+  pub together : AreTogether archives
+  pub coded : All (HasCode policy) archives
+  pub count : length archives ≡ length sources
+
+abbrev pub BroughtIn : Begun → List Turn → Type 0
+BroughtIn begun turns = AreBrought begun.cluster.policy (facts_in begun turns).sources (facts_in begun turns).archives
+
+none_brought : (policy : PolicyModel) → AreBrought policy [] []
+none_brought policy = record { together = none_together; coded = All-nil (HasCode policy); count = refl }
+
+nothing_more : (policy : PolicyModel) (sources : List Target) (archives : List ArchiveModel) → AreBrought policy sources archives → AreBrought policy (sources ++ []) (archives ++ [])
+nothing_more policy sources archives are =
+    subst (λ these. AreBrought policy these (archives ++ [])) (sym (append-nil sources)) (subst (AreBrought policy sources) (sym (append-nil archives)) are)
 
 module _ (begun : Begun) (turns : List Turn) where
   abbrev round_after : Sent → Bool → Round
   round_after sent b = if b then record { turns = Sends sent ∷ []; earlier = turns } else record { turns = Sends sent ∷ now begun turns; earlier = (round_in begun turns).earlier }
 
   -- a message leaves them, or begins a round that has none
-  archives_sent : (sent : Sent) → AreTogether (facts_in begun turns).archives → AreTogether (facts_in begun (Sends sent ∷ turns)).archives
-  archives_sent sent together = by_first (is_first (all begun turns) sent.msg (round_in begun turns)) refl
+  archives_sent : (sent : Sent) → BroughtIn begun turns → BroughtIn begun (Sends sent ∷ turns)
+  archives_sent sent are = by_first (is_first (all begun turns) sent.msg (round_in begun turns)) refl
     where
       by_first : (b : Bool) → is_first (all begun turns) sent.msg (round_in begun turns) ≡ b
-          → AreTogether (facts_of (round_after sent b).turns).archives
-      by_first true is = none_together
-      by_first false is = together
+          → AreBrought begun.cluster.policy (facts_of (round_after sent b).turns).sources (facts_of (round_after sent b).turns).archives
+      by_first true is = none_brought begun.cluster.policy
+      by_first false is = are
 
-  archives_heard : (sent : Sent) (answer : Option Reply) (meaning : Meaning) → IsMeant begun turns sent.msg answer meaning → AreTogether (facts_in begun turns).archives
-      → AreTogether (facts_in begun (Hears sent meaning ∷ turns)).archives
-  archives_heard sent answer (Brings archive) is together =
-      let beside = brought_beside begun turns archive answer sent.msg is in
-      AreTogether-push (facts_in begun turns).archives archive together beside.0 beside.1
-  archives_heard sent answer (Lists listing) is together = subst AreTogether (sym (append-nil (facts_in begun turns).archives)) together
-  archives_heard sent answer (Lacks listing) is together = subst AreTogether (sym (append-nil (facts_in begun turns).archives)) together
-  archives_heard sent answer (Misses how) is together = subst AreTogether (sym (append-nil (facts_in begun turns).archives)) together
+  archives_heard : (sent : Sent) (answer : Option Reply) (meaning : Meaning) → IsMeant begun turns sent.msg answer meaning → BroughtIn begun turns → BroughtIn begun (Hears sent meaning ∷ turns)
+  archives_heard sent answer (Brings archive) is are =
+      let facts = facts_in begun turns in
+      let beside = brought_beside begun turns archive answer sent.device sent.msg is in
+      record {
+        together = AreTogether-push facts.archives archive are.together beside.sound beside.next;
+        coded = All-push (HasCode begun.cluster.policy) facts.archives archive are.coded beside.code;
+        count = omega (arith, are.count, beside.one_source, length-append facts.archives (archive ∷ []), length-append facts.sources (source_of sent.device sent.msg));
+      }
+  archives_heard sent answer (Lists listing) is are = nothing_more begun.cluster.policy _ _ are
+  archives_heard sent answer (Lacks listing) is are = nothing_more begun.cluster.policy _ _ are
+  archives_heard sent answer (Misses how) is are = nothing_more begun.cluster.policy _ _ are
+
+pub turns_brought : (begun : Begun) (past : List Step) (turns : List Turn) → AreTurns begun past turns → BroughtIn begun turns
+turns_brought begun [] [] are = none_brought begun.cluster.policy
+turns_brought begun [] (turn ∷ turns) are = absurd are
+turns_brought begun (Gave sent ∷ past) [] are = absurd are
+turns_brought begun (Gave sent ∷ past) (Sends same ∷ turns) are = archives_sent begun turns same (turns_brought begun past turns are.1)
+turns_brought begun (Gave sent ∷ past) (Hears same meaning ∷ turns) are = absurd are
+turns_brought begun (Told sent answer ∷ past) [] are = absurd are
+turns_brought begun (Told sent answer ∷ past) (Sends same ∷ turns) are = absurd are
+turns_brought begun (Told sent answer ∷ past) (Hears same meaning ∷ turns) are =
+    archives_heard begun turns same answer meaning (subst (λ (one : Sent). IsMeant begun turns one.msg answer meaning) (sym are.0) are.1) (turns_brought begun past turns are.2)
 
 pub turns_together : (begun : Begun) (past : List Step) (turns : List Turn) → AreTurns begun past turns → AreTogether (facts_in begun turns).archives
-turns_together begun [] [] are = none_together
-turns_together begun [] (turn ∷ turns) are = absurd are
-turns_together begun (Gave sent ∷ past) [] are = absurd are
-turns_together begun (Gave sent ∷ past) (Sends same ∷ turns) are = archives_sent begun turns same (turns_together begun past turns are.1)
-turns_together begun (Gave sent ∷ past) (Hears same meaning ∷ turns) are = absurd are
-turns_together begun (Told sent answer ∷ past) [] are = absurd are
-turns_together begun (Told sent answer ∷ past) (Sends same ∷ turns) are = absurd are
-turns_together begun (Told sent answer ∷ past) (Hears same meaning ∷ turns) are =
-    archives_heard begun turns same answer meaning (subst (λ (one : Sent). IsMeant begun turns one.msg answer meaning) (sym are.0) are.1) (turns_together begun past turns are.2)
+turns_together begun past turns are = (turns_brought begun past turns are).together
 
 -- ---- one list of turns
 
