@@ -1,9 +1,17 @@
 -- Archives that stand beside one another, one more at a time.
 use Rattle.std.proofs.Common.{◌≡◌, ◌≢◌, ◌≤◌, ◌<◌, ◌+◌, ℕ, List, [], ◌∷◌, ◌++◌, length, length-append, ap, arith}
-use Rattle.std.proofs.lemmas.List.Elements.{All-append, All-from_recursion, All-push}
+use Rattle.std.proofs.lemmas.List.Elements.{All-append, All-from_recursion, All-nil, All-push}
 use Rattle.std.proofs.lemmas.List.Quantifiers.{all_pairs_push}
 use Rattle.sw_archive.specs.Archive.{ArchiveModel, IsSound}
 use Rattle.sw_archive.specs.Assemble.{AreAlike, AreTogether, IsNext, k_of}
+
+pub none_together : AreTogether []
+none_together = record {
+  sound = All-nil IsSound;
+  alike = λ i j d less within. absurd (omega arith);
+  distinct = λ i j d less within. absurd (omega arith);
+  few = All-nil (λ (archive : ArchiveModel). 0 ≤ archive.k);
+}
 
 -- with one that can stand beside them
 pub AreTogether-push : (archives : List ArchiveModel) (archive : ArchiveModel) → AreTogether archives → IsSound archive → IsNext archives archive → AreTogether (archives ++ archive ∷ [])

@@ -7,11 +7,11 @@ use Rattle.sw_words.specs.Bytes.{IsBytes}
 use Rattle.sw_words.specs.Memory.{UnlessMemory}
 use Rattle.sw_types.specs.Head.{HeadModel}
 use Rattle.sw_types.specs.Name.{NameModel}
-use Rattle.sw_types.specs.Object.{ObjectModel}
+use Rattle.sw_types.specs.Object.{IsObject, ObjectModel}
 use Rattle.sw_types.specs.Policy.{PolicyModel}
 use Rattle.sw_types.proofs.Policies.{bounds}
 use Rattle.sw_archive.specs.Archive.{ArchiveModel, IsSound, archive_bytes, checked, payload_length}
-use Rattle.sw_archive.specs.Assemble.{AreAlike, AreEnough, AreTogether, GivesObject, IsFurther}
+use Rattle.sw_archive.specs.Assemble.{AreAlike, AreEnough, AreTogether, GivesObject, IsFurther, IsOther, IsTold}
 use Rattle.sw_archive.specs.Decoding.{IsRebuilt}
 use Rattle.sw_archive.specs.Pieces.{AreOfPieces, ArePieces, IsDecoded, joined_fragments, joined_segments}
 use Rattle.sw_archive.specs.Put.{AreOfPut, IsPut, put_archive, put_fields}
@@ -130,6 +130,20 @@ same_object : (a b : ObjectModel) → a.head ≡ b.head → a.body ≡ b.body �
 same_object a b head body body_md5 =
     let all : object a.head a.body a.body_md5 ≡ object b.head b.body b.body_md5 = cc in all
 
+-- k archives tell one object
+pub one_object : (archives : List ArchiveModel) (a b : ObjectModel) → AreEnough archives → AreTogether archives → IsTold archives a → IsTold archives b → a ≡ b
+one_object archives a b enough together a_told b_told =
+    let some = some_archive archives enough in
+    same_object a b (a_told.head 0 no_archive some ∙ sym (b_told.head 0 no_archive some)) (one_body archives a.body b.body enough together a_told.decoded b_told.decoded)
+    (a_told.body_md5 0 no_archive some ∙ sym (b_told.body_md5 0 no_archive some))
+
+-- and where it has the MD5 of its body, they tell no other one
+pub not_other : (archives : List ArchiveModel) (object : ObjectModel) (told computed : List ℕ) → AreEnough archives → AreTogether archives → IsObject object → IsTold archives object → IsOther archives told computed → ⊥
+not_other archives object told computed enough together is_object is_told other =
+    let some = some_archive archives enough in
+    let body = one_body archives other.body object.body enough together other.decoded is_told.decoded in
+    other.differs (other.tells 0 no_archive some ∙ sym (is_told.body_md5 0 no_archive some) ∙ is_object.body_md5 ∙ ap md5 (sym body) ∙ sym other.computes)
+
 -- what each of a put's archives tells
 put_told : (policy : PolicyModel) (stamp : ℕ) (name : NameModel) (object : ObjectModel) (archives : List ArchiveModel) → AreOfPut policy stamp name object archives → AreEnough archives
     → let first = get_or archives 0 no_archive in first ≡ put_fields policy stamp name object first.index
@@ -221,6 +235,28 @@ further_archive archives first index old new bytes enough together is sound belo
       of = rebuilt.of;
       rebuilt = added;
     }
+
+-- of each index there is one
+pub one_further : (archives : List ArchiveModel) (index : ℕ) (a b : List ℕ) → AreEnough archives → AreTogether archives → IsFurther archives index a → IsFurther archives index b → a ≡ b
+one_further archives index a b enough together a_is b_is =
+    let some = some_archive archives enough in
+    let one = a_is.archive in
+    let other = b_is.archive in
+    let first = a_is.alike 0 no_archive some in
+    let second = b_is.alike 0 no_archive some in
+    let k : one.k ≡ other.k = sym (ap (λ (x : ArchiveModel). x.k) first) ∙ ap (λ (x : ArchiveModel). x.k) second in
+    let segment : one.segment ≡ other.segment = sym (ap (λ (x : ArchiveModel). x.segment) first) ∙ ap (λ (x : ArchiveModel). x.segment) second in
+    let total : one.body_length ≡ other.body_length = sym (ap (λ (x : ArchiveModel). x.body_length) first) ∙ ap (λ (x : ArchiveModel). x.body_length) second in
+    let pieces = one_together archives a_is.pieces b_is.pieces enough together a_is.of b_is.of in
+    let payload = a_is.rebuilt ∙ ap (λ (p : List (List ℕ)). joined_fragments one.k one.segment one.body_length p index) pieces
+    ∙ ap (λ n. joined_fragments n one.segment one.body_length b_is.pieces index) k ∙ ap (λ n. joined_fragments other.k n one.body_length b_is.pieces index) segment
+    ∙ ap (λ n. joined_fragments other.k other.segment n b_is.pieces index) total ∙ sym b_is.rebuilt in
+    a_is.spelled.spelled
+    ∙ ap archive_bytes
+    (same_archive one other k (sym (ap (λ (x : ArchiveModel). x.m) first) ∙ ap (λ (x : ArchiveModel). x.m) second) (a_is.indexed ∙ sym b_is.indexed) segment
+    (sym (ap (λ (x : ArchiveModel). x.stamp) first) ∙ ap (λ (x : ArchiveModel). x.stamp) second) total (sym (ap (λ (x : ArchiveModel). x.body_md5) first) ∙ ap (λ (x : ArchiveModel). x.body_md5) second)
+    (sym (ap (λ (x : ArchiveModel). x.name) first) ∙ ap (λ (x : ArchiveModel). x.name) second) (sym (ap (λ (x : ArchiveModel). x.head) first) ∙ ap (λ (x : ArchiveModel). x.head) second) payload)
+    ∙ sym b_is.spelled.spelled
 
 -- of a put's archives it is that of the put
 pub further_of_put : (archives : List ArchiveModel) (index : ℕ) (bytes : List ℕ) → IsFurther archives index bytes → AreEnough archives → AreTogether archives

@@ -3,10 +3,10 @@
 ghost use Rattle.std.specs.Prelude.{◌≡◌, ◌<◌, ◌+◌, ◌++◌, ◌⊎◌, List, ℕ, []};
 ghost use Rattle.sw_words.specs.Bytes.{IsBytes};
 ghost use Rattle.sw_types.specs.Name.{NameModel};
-ghost use Rattle.sw_types.specs.Object.{ObjectModel};
+ghost use Rattle.sw_types.specs.Object.{IsObject, ObjectModel};
 ghost use Rattle.sw_types.specs.Policy.{PolicyModel};
 ghost use Rattle.sw_archive.specs.Archive.{ArchiveModel, IsArchive};
-ghost use Rattle.sw_archive.specs.Assemble.{AreEnough, AreTogether};
+ghost use Rattle.sw_archive.specs.Assemble.{AreEnough, AreTogether, IsFurther, IsOther, IsTold};
 ghost use Rattle.sw_archive.specs.Fault.{IsFault};
 ghost use Rattle.sw_archive.specs.Pieces.{AreOfPieces, IsDecoded};
 ghost use Rattle.sw_archive.specs.Put.{IsPut, put_archive, put_fields};
@@ -35,4 +35,13 @@ pub fn pieces_law()
     ensures some { (archives : List ArchiveModel) → AreEnough archives → AreTogether archives → (pieces : List (List ℕ)) × AreOfPieces archives pieces }
     ensures one { (archives : List ArchiveModel) (a b : List (List ℕ)) → AreEnough archives → AreTogether archives → AreOfPieces archives a → AreOfPieces archives b → a ≡ b }
     ensures body { (archives : List ArchiveModel) (a b : List ℕ) → AreEnough archives → AreTogether archives → IsDecoded archives a → IsDecoded archives b → a ≡ b }
+{}
+
+/// k archives that stand beside one another tell one object, and no other MD5 than its body's, and each index has one further archive
+/// beside them.
+pub fn assemble_law()
+    ensures object { (archives : List ArchiveModel) (a b : ObjectModel) → AreEnough archives → AreTogether archives → IsTold archives a → IsTold archives b → a ≡ b }
+    ensures not_both { (archives : List ArchiveModel) (object : ObjectModel) (told computed : List ℕ) → AreEnough archives → AreTogether archives → IsObject object → IsTold archives object →
+        ¬ (IsOther archives told computed) }
+    ensures further { (archives : List ArchiveModel) (index : ℕ) (a b : List ℕ) → AreEnough archives → AreTogether archives → IsFurther archives index a → IsFurther archives index b → a ≡ b }
 {}

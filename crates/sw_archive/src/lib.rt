@@ -17,7 +17,7 @@ mod reading;
 pub use crate::archive::Archive;
 pub use crate::assemble::{Assemble, AssembleFault};
 pub use crate::fault::{ArchiveFault, ArchiveField};
-pub use crate::laws::{archive_law, fault_law, pieces_law, put_law};
+pub use crate::laws::{archive_law, assemble_law, fault_law, pieces_law, put_law};
 pub use crate::making::make_archive;
 pub use crate::reading::read_archive;
 

@@ -43,7 +43,7 @@ pub record Knows (begun : Begun) (past : List Step) (state : State) : Type 0 whe
   pub run : IsRun (stages.IsNext (stage_of begun state.course.task)) state.own
   pub tells : AreTold past state.own
 
-same-renumbered : (before : ℕ) (one other : Sent) → renumbered before one ≡ renumbered before other → one ≡ other
+pub same-renumbered : (before : ℕ) (one other : Sent) → renumbered before one ≡ renumbered before other → one ≡ other
 same-renumbered before one other is =
     let tickets : before + one.ticket ≡ before + other.ticket = ap (λ (sent : Sent). sent.ticket) is in
     let devices : one.device ≡ other.device = ap (λ (sent : Sent). sent.device) is in

@@ -15,6 +15,7 @@ pub mod Passes
 pub mod Pops
 pub mod Questions
 pub mod Renumbering
+pub mod Sameness
 pub mod Stages
 pub mod Treated
 pub mod Whole

@@ -1,11 +1,17 @@
-//! What passes do, as the contract of a function without arguments.
+//! Laws of passes, each the contract of a function without arguments.
 
 ghost use Rattle.std.specs.Prelude.{◌≡◌, List};
-ghost use Rattle.sw_message.specs.Transcript.{Hand, IsRun, Step};
+ghost use Rattle.sw_message.specs.Transcript.{Hand, IsRun, Next, Step};
 ghost use Rattle.sw_message.specs.declared.sent.Sent.{Sent as ASent};
 ghost use Rattle.sw_daemon.specs.Causes.{AreOnce, IsWhole, MaySend};
 ghost use Rattle.sw_daemon.specs.Pass.{Begun, IsBegun, IsEnd, IsNext};
 ghost use Rattle.sw_daemon.specs.declared.report.PassReport.{PassReport as AReport};
+
+/// After a transcript of a pass one thing comes next, and it has one end at most.
+pub fn machine_law()
+    ensures one_next { (begun : Begun) (past : List Step) (one other : Next) → IsBegun begun → IsNext begun past one → IsNext begun past other → one ≡ other }
+    ensures one_end { (begun : Begun) (past : List Step) (one other : AReport) → IsBegun begun → IsEnd begun past one → IsEnd begun past other → one ≡ other }
+{}
 
 /// A pass sends messages only about places that its own device listed: where that is a primary of the place, only if another primary
 /// missed or differs at the place's suffix. At its end, where no partition was listed twice, each that is treated was asked for, and the

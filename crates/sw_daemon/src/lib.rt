@@ -16,7 +16,7 @@ mod staging;
 mod survey;
 mod task;
 
-pub use crate::laws::pass_law;
+pub use crate::laws::{machine_law, pass_law};
 pub use crate::pass_op::PassOp;
 pub use crate::passing::pass;
 pub use crate::report::PassReport;

@@ -9,7 +9,7 @@ mod operation;
 
 pub use crate::delete::DeleteOp;
 pub use crate::end::DeleteEnd;
-pub use crate::laws::end_law;
+pub use crate::laws::{end_law, machine_law};
 
 #[cfg(test)]
 mod tests;

@@ -5,6 +5,7 @@ use Rattle.std.proofs.lemmas.List.Elements.{All-append, All-cons, All-head, All-
 use Rattle.sw_types.specs.Policy.{PolicyModel}
 use Rattle.sw_archive.specs.Archive.{ArchiveModel}
 use Rattle.sw_archive.specs.Assemble.{AreAlike, AreEnough, IsNext, IsOther, k_of}
+use Rattle.sw_message.specs.Spoil.{HasCode}
 use Rattle.sw_gather.specs.Gathered.{GatheredModel, IsBeside, IsWithoutLast, Joins, Settles}
 
 -- ---- room
@@ -50,6 +51,11 @@ k_from_enough (first ∷ others) archive next enough = enough ∙ first_k first 
 pub enough_from_k : (archives : List ArchiveModel) (archive : ArchiveModel) → IsNext archives archive → length (archives ++ archive ∷ []) ≡ archive.k → AreEnough (archives ++ archive ∷ [])
 enough_from_k [] archive next is = is
 enough_from_k (first ∷ others) archive next is = is ∙ sym (first_k first others archive next)
+
+-- k archives of the policy's code are enough
+pub enough_coded : (policy : PolicyModel) (archives : List ArchiveModel) → All (HasCode policy) archives → 1 ≤ policy.k → length archives ≡ policy.k → AreEnough archives
+enough_coded policy [] coded some is = absurd (omega (arith, some, is))
+enough_coded policy (first ∷ archives) coded some is = is ∙ sym (All-head (HasCode policy) first archives coded).0
 
 -- ---- without the last
 

@@ -9,6 +9,7 @@ pub mod Handings
 pub mod Indices
 pub mod Joins
 pub mod Kept
+pub mod Machine
 pub mod Meanings
 pub mod Members
 pub mod Readings

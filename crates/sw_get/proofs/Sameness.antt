@@ -1,14 +1,13 @@
 -- An answer has one meaning, and a transcript one list of turns.
 use Rattle.std.proofs.Common.{◌≡◌, inl, inr, ◌⊎◌, ℕ, ◌<◌, ◌≤◌, ◌++◌, Bool, true, false, List, [], ◌∷◌, length, length-append, append-nil, Option, Some, None, refl, sym, ap, subst, ◌∙◌, arith}
 use Rattle.std.specs.Prelude.{if◌then◌else◌}
-use Rattle.std.proofs.lemmas.List.Elements.{All-nil}
+use Rattle.std.specs.List.{All}
+use Rattle.std.proofs.lemmas.List.Elements.{All-nil, All-push}
+use Rattle.sw_types.specs.Policy.{PolicyModel}
 use Rattle.sw_archive.specs.Archive.{ArchiveModel, IsSound}
 use Rattle.sw_archive.specs.Assemble.{AreTogether, IsNext}
-use Rattle.sw_archive.proofs.Archives.{one_archive}
-use Rattle.sw_archive.proofs.Faults.{no_fault, one_fault}
-use Rattle.sw_archive.proofs.Gatherings.{AreTogether-push}
-use Rattle.sw_archive.proofs.Objects.{no_archive, one_body}
-use Rattle.sw_message.specs.Spoil.{IsNamed, IsSpoilOf}
+use Rattle.sw_archive.proofs.Gatherings.{AreTogether-push, none_together}
+use Rattle.sw_message.specs.Spoil.{HasCode, IsNamed}
 use Rattle.sw_message.specs.Transcript.{Gave, Step, Told}
 use Rattle.sw_message.specs.declared.message.Msg.{Msg}
 use Rattle.sw_message.specs.declared.message.Msg.TheVariants as message
@@ -17,39 +16,33 @@ use Rattle.sw_message.specs.declared.reply.Reply.{Reply}
 use Rattle.sw_message.specs.declared.reply.Reply.TheVariants as reply
 use Rattle.sw_message.specs.declared.sent.Sent.{Sent}
 use Rattle.sw_message.specs.declared.spoil.Foreign.TheVariants as foreign
-use Rattle.sw_message.specs.declared.spoil.Spoil.{Spoil}
 use Rattle.sw_message.specs.declared.spoil.Spoil.TheVariants as spoil
-use Rattle.sw_message.proofs.Spoils.{FaultLaw, asked_or_spoil, one_spoil_of}
-use Rattle.sw_get.specs.Get.{AreTurns, Begun, Hears, IsMeant, Round, Sends, Turn, facts_in, facts_of, is_first, round_in, wanted}
+use Rattle.sw_message.specs.declared.target.Target.{Target}
+use Rattle.sw_get.specs.Get.{AreTurns, Begun, Hears, IsMeant, Round, Sends, Turn, facts_in, facts_of, is_first, round_in, source_of, wanted}
 use Rattle.sw_get.specs.Meaning.{Brings, IsFetched, IsRead, IsWanted, Lacks, Lists, Meaning, Misses, Wanted}
-use Rattle.sw_gather.specs.Gathered.{AreRight, AreWrong, Strays}
-use Rattle.sw_gather.proofs.Joins.{enough_from_k}
+use Rattle.sw_gather.proofs.Readings as reading
+use Rattle.sw_gather.proofs.Readings.{Reading, Reads, one-reading}
 use Rattle.sw_get.proofs.Meanings.{asked_cases}
 use Rattle.sw_get.proofs.Turns.{all, now}
-
-law : FaultLaw
-law = record { not_both = no_fault; one = one_fault }
 
 -- ---- what bytes mean
 
 module _ (wanted : Wanted) (others : List ArchiveModel) (index : ℕ) (bytes : List ℕ) where
-  abbrev Brought : Meaning → Type 0
-  Brought meaning = (archive : ArchiveModel) × (meaning ≡ Brings archive) × IsWanted wanted index bytes archive × IsNext others archive × AreRight wanted.policy (others ++ archive ∷ [])
+  abbrev as_meaning : Reading → Meaning
+  as_meaning (reading.Brings archive) = Brings archive
+  as_meaning (reading.Spoils how) = Misses (miss.Spoiled how)
 
-  abbrev Strayed : Meaning → Type 0
-  Strayed meaning = (archive : ArchiveModel) × (meaning ≡ Misses (miss.Spoiled (spoil.Foreign foreign.Object))) × IsWanted wanted index bytes archive × Strays wanted.policy others archive
+  abbrev ReadsAs : Meaning → Type 0
+  ReadsAs meaning = (one : Reading) × (meaning ≡ as_meaning one) × Reads (IsNamed wanted.name) wanted.policy wanted.stamp others index bytes one
 
-  abbrev Spoilt : Meaning → Type 0
-  Spoilt meaning = (how : Spoil) × (meaning ≡ Misses (miss.Spoiled how)) × IsSpoilOf (IsNamed wanted.name) wanted.policy wanted.stamp index bytes how
-
-  view : (meaning : Meaning) → IsRead wanted others index bytes meaning → Brought meaning ⊎ (Strayed meaning ⊎ Spoilt meaning)
-  view (Brings archive) is = inl (archive, refl, is.0, is.1, is.2)
-  view (Misses (miss.Spoiled (spoil.Fault fault))) is = inr (inr (spoil.Fault fault, refl, is))
-  view (Misses (miss.Spoiled (spoil.Foreign foreign.Name))) is = inr (inr (spoil.Foreign foreign.Name, refl, is))
-  view (Misses (miss.Spoiled (spoil.Foreign foreign.Stamp))) is = inr (inr (spoil.Foreign foreign.Stamp, refl, is))
-  view (Misses (miss.Spoiled (spoil.Foreign foreign.Index))) is = inr (inr (spoil.Foreign foreign.Index, refl, is))
-  view (Misses (miss.Spoiled (spoil.Foreign foreign.Code))) is = inr (inr (spoil.Foreign foreign.Code, refl, is))
-  view (Misses (miss.Spoiled (spoil.Foreign foreign.Object))) is = inr (inl (is.0, refl, is.1, is.2))
+  view : (meaning : Meaning) → IsRead wanted others index bytes meaning → ReadsAs meaning
+  view (Brings archive) is = (reading.Brings archive, refl, is)
+  view (Misses (miss.Spoiled (spoil.Fault fault))) is = (reading.Spoils (spoil.Fault fault), refl, is)
+  view (Misses (miss.Spoiled (spoil.Foreign foreign.Name))) is = (reading.Spoils (spoil.Foreign foreign.Name), refl, is)
+  view (Misses (miss.Spoiled (spoil.Foreign foreign.Stamp))) is = (reading.Spoils (spoil.Foreign foreign.Stamp), refl, is)
+  view (Misses (miss.Spoiled (spoil.Foreign foreign.Index))) is = (reading.Spoils (spoil.Foreign foreign.Index), refl, is)
+  view (Misses (miss.Spoiled (spoil.Foreign foreign.Code))) is = (reading.Spoils (spoil.Foreign foreign.Code), refl, is)
+  view (Misses (miss.Spoiled (spoil.Foreign foreign.Object))) is = (reading.Spoils (spoil.Foreign foreign.Object), refl, is)
   view (Misses miss.NoReply) is = absurd is
   view (Misses miss.DiskFault) is = absurd is
   view (Misses (miss.NoSpace need free)) is = absurd is
@@ -60,43 +53,11 @@ module _ (wanted : Wanted) (others : List ArchiveModel) (index : ℕ) (bytes : L
   view (Lists listing) is = absurd is
   view (Lacks listing) is = absurd is
 
-  module _ (together : AreTogether others) where
-    -- archives tell their body's MD5, or another one, and not both
-    right_or_wrong : (archive : ArchiveModel) → IsWanted wanted index bytes archive → IsNext others archive → AreRight wanted.policy (others ++ archive ∷ []) → AreWrong wanted.policy (others ++ archive ∷ []) → ⊥
-    right_or_wrong archive is next right wrong =
-        let these : List ArchiveModel = others ++ archive ∷ [] in
-        let told = right wrong.enough in
-        let some : 0 < length these = omega (arith, length-append others (archive ∷ [])) in
-        let enough = enough_from_k others archive next (wrong.enough ∙ sym is.1.code.0) in
-        let all_together = AreTogether-push others archive together is.0.sound next in
-        let body = one_body these told.0.body wrong.other.body enough all_together told.2.decoded wrong.other.decoded in
-        let md5 = rw body at told.1.body_md5 in
-        wrong.other.differs (wrong.other.tells 0 no_archive some ∙ sym (told.2.body_md5 0 no_archive some) ∙ md5 ∙ sym wrong.other.computes)
-
-    brought_or_strayed : (a b : ArchiveModel) → IsWanted wanted index bytes a → IsNext others a → AreRight wanted.policy (others ++ a ∷ []) → IsWanted wanted index bytes b → Strays wanted.policy others b → ⊥
-    brought_or_strayed a b is next right other strays =
-        elim (subst (Strays wanted.policy others) (one_archive bytes b a other.0 is.0) strays) [
-          | inl never ↦ never next
-          | inr wrong ↦ right_or_wrong a is next right wrong.1
-        ]
-
-    wanted_or_spoilt : (archive : ArchiveModel) (how : Spoil) → IsWanted wanted index bytes archive → IsSpoilOf (IsNamed wanted.name) wanted.policy wanted.stamp index bytes how → ⊥
-    wanted_or_spoilt archive how is spoils = asked_or_spoil law (IsNamed wanted.name) wanted.policy wanted.stamp index bytes archive is.0 is.1 how spoils
-
-    one_of : (a b : Meaning) → Brought a ⊎ (Strayed a ⊎ Spoilt a) → Brought b ⊎ (Strayed b ⊎ Spoilt b) → a ≡ b
-    one_of a b (inl x) (inl y) = x.1 ∙ ap Brings (one_archive bytes x.0 y.0 x.2.0 y.2.0) ∙ sym y.1
-    one_of a b (inl x) (inr (inl y)) = absurd (brought_or_strayed x.0 y.0 x.2 x.3 x.4 y.2 y.3)
-    one_of a b (inl x) (inr (inr y)) = absurd (wanted_or_spoilt x.0 y.0 x.2 y.2)
-    one_of a b (inr (inl x)) (inl y) = absurd (brought_or_strayed y.0 x.0 y.2 y.3 y.4 x.2 x.3)
-    one_of a b (inr (inl x)) (inr (inl y)) = x.1 ∙ sym y.1
-    one_of a b (inr (inl x)) (inr (inr y)) = absurd (wanted_or_spoilt x.0 y.0 x.2 y.2)
-    one_of a b (inr (inr x)) (inl y) = absurd (wanted_or_spoilt y.0 x.0 y.2 x.2)
-    one_of a b (inr (inr x)) (inr (inl y)) = absurd (wanted_or_spoilt y.0 x.0 y.2 x.2)
-    one_of a b (inr (inr x)) (inr (inr y)) =
-        x.1 ∙ ap (λ how. Misses (miss.Spoiled how)) (one_spoil_of law (IsNamed wanted.name) wanted.policy wanted.stamp index bytes x.0 y.0 x.2 y.2) ∙ sym y.1
-
-    one_read : (a b : Meaning) → IsRead wanted others index bytes a → IsRead wanted others index bytes b → a ≡ b
-    one_read a b x y = one_of a b (view a x) (view b y)
+  one_read : AreTogether others → (a b : Meaning) → IsRead wanted others index bytes a → IsRead wanted others index bytes b → a ≡ b
+  one_read together a b x y =
+      let one = view a x in
+      let other = view b y in
+      one.1 ∙ ap as_meaning (one-reading (IsNamed wanted.name) wanted.policy wanted.stamp others index bytes together one.0 other.0 one.2 other.2) ∙ sym other.1
 
 -- ---- what answers mean
 
@@ -163,16 +124,22 @@ module _ (wanted : Wanted) (others : List ArchiveModel) (index : ℕ) (archive :
   fragment_of (Some (reply.NoSpace need free)) is = absurd (cc)
   fragment_of (Some reply.NoMemory) is = absurd (cc)
 
--- so it can stand beside those that were brought before it
-module _ (begun : Begun) (turns : List Turn) (archive : ArchiveModel) (answer : Option Reply) where
-  abbrev Beside : Type 0
-  Beside = IsSound archive × IsNext (facts_in begun turns).archives archive
+-- so it can stand beside those that were brought before it, and is of the policy's code
+pub record IsBeside (policy : PolicyModel) (others : List ArchiveModel) (archive : ArchiveModel) (device : ℕ) (msg : Msg) : Type 0 where
+  pub sound : IsSound archive
+  pub next : IsNext others archive
+  pub code : HasCode policy archive
+  pub one_source : length (source_of device msg) ≡ 1
 
-  brought_beside : (msg : Msg) → IsMeant begun turns msg answer (Brings archive) → Beside
+module _ (begun : Begun) (turns : List Turn) (archive : ArchiveModel) (answer : Option Reply) (device : ℕ) where
+  abbrev Beside : Msg → Type 0
+  Beside msg = IsBeside begun.cluster.policy (facts_in begun turns).archives archive device msg
+
+  brought_beside : (msg : Msg) → IsMeant begun turns msg answer (Brings archive) → Beside msg
   brought_beside (message.Ask place) is = elim (asked_cases answer) [ inl lists ↦ absurd (cc (lists.1)) | inr misses ↦ absurd (cc (misses.1)) ]
   brought_beside (message.Fetch place stamp index) is =
       let sent = fragment_of (wanted begun stamp) (facts_in begun turns).archives index archive answer is in
-      (sent.spelled.0.sound, sent.next)
+      record { sound = sent.spelled.0.sound; next = sent.next; code = sent.spelled.1.code; one_source = refl }
   brought_beside (message.PutFrag place stamp index bytes) is = absurd is
   brought_beside (message.Commit place stamp index) is = absurd is
   brought_beside (message.Delete place stamp) is = absurd is
@@ -181,48 +148,63 @@ module _ (begun : Begun) (turns : List Turn) (archive : ArchiveModel) (answer : 
   brought_beside (message.Suffixes part) is = absurd is
   brought_beside (message.Places part) is = absurd is
 
--- ---- the archives of a round stand beside one another
+-- ---- the archives of a round
 
-none_together : AreTogether []
-none_together = record {
-  sound = All-nil IsSound;
-  alike = λ i j d less within. absurd (omega arith);
-  distinct = λ i j d less within. absurd (omega arith);
-  few = All-nil (λ (archive : ArchiveModel). 0 ≤ archive.k);
-}
+-- they stand beside one another and are of the policy's code, one for each source that brought one
+pub record AreBrought (policy : PolicyModel) (sources : List Target) (archives : List ArchiveModel) : Type 0 where
+  pub together : AreTogether archives
+  pub coded : All (HasCode policy) archives
+  pub count : length archives ≡ length sources
+
+abbrev pub BroughtIn : Begun → List Turn → Type 0
+BroughtIn begun turns = AreBrought begun.cluster.policy (facts_in begun turns).sources (facts_in begun turns).archives
+
+none_brought : (policy : PolicyModel) → AreBrought policy [] []
+none_brought policy = record { together = none_together; coded = All-nil (HasCode policy); count = refl }
+
+nothing_more : (policy : PolicyModel) (sources : List Target) (archives : List ArchiveModel) → AreBrought policy sources archives → AreBrought policy (sources ++ []) (archives ++ [])
+nothing_more policy sources archives are =
+    subst (λ these. AreBrought policy these (archives ++ [])) (sym (append-nil sources)) (subst (AreBrought policy sources) (sym (append-nil archives)) are)
 
 module _ (begun : Begun) (turns : List Turn) where
   abbrev round_after : Sent → Bool → Round
   round_after sent b = if b then record { turns = Sends sent ∷ []; earlier = turns } else record { turns = Sends sent ∷ now begun turns; earlier = (round_in begun turns).earlier }
 
   -- a message leaves them, or begins a round that has none
-  archives_sent : (sent : Sent) → AreTogether (facts_in begun turns).archives → AreTogether (facts_in begun (Sends sent ∷ turns)).archives
-  archives_sent sent together = by_first (is_first (all begun turns) sent.msg (round_in begun turns)) refl
+  archives_sent : (sent : Sent) → BroughtIn begun turns → BroughtIn begun (Sends sent ∷ turns)
+  archives_sent sent are = by_first (is_first (all begun turns) sent.msg (round_in begun turns)) refl
     where
       by_first : (b : Bool) → is_first (all begun turns) sent.msg (round_in begun turns) ≡ b
-          → AreTogether (facts_of (round_after sent b).turns).archives
-      by_first true is = none_together
-      by_first false is = together
+          → AreBrought begun.cluster.policy (facts_of (round_after sent b).turns).sources (facts_of (round_after sent b).turns).archives
+      by_first true is = none_brought begun.cluster.policy
+      by_first false is = are
 
-  archives_heard : (sent : Sent) (answer : Option Reply) (meaning : Meaning) → IsMeant begun turns sent.msg answer meaning → AreTogether (facts_in begun turns).archives
-      → AreTogether (facts_in begun (Hears sent meaning ∷ turns)).archives
-  archives_heard sent answer (Brings archive) is together =
-      let beside = brought_beside begun turns archive answer sent.msg is in
-      AreTogether-push (facts_in begun turns).archives archive together beside.0 beside.1
-  archives_heard sent answer (Lists listing) is together = subst AreTogether (sym (append-nil (facts_in begun turns).archives)) together
-  archives_heard sent answer (Lacks listing) is together = subst AreTogether (sym (append-nil (facts_in begun turns).archives)) together
-  archives_heard sent answer (Misses how) is together = subst AreTogether (sym (append-nil (facts_in begun turns).archives)) together
+  archives_heard : (sent : Sent) (answer : Option Reply) (meaning : Meaning) → IsMeant begun turns sent.msg answer meaning → BroughtIn begun turns → BroughtIn begun (Hears sent meaning ∷ turns)
+  archives_heard sent answer (Brings archive) is are =
+      let facts = facts_in begun turns in
+      let beside = brought_beside begun turns archive answer sent.device sent.msg is in
+      record {
+        together = AreTogether-push facts.archives archive are.together beside.sound beside.next;
+        coded = All-push (HasCode begun.cluster.policy) facts.archives archive are.coded beside.code;
+        count = omega (arith, are.count, beside.one_source, length-append facts.archives (archive ∷ []), length-append facts.sources (source_of sent.device sent.msg));
+      }
+  archives_heard sent answer (Lists listing) is are = nothing_more begun.cluster.policy _ _ are
+  archives_heard sent answer (Lacks listing) is are = nothing_more begun.cluster.policy _ _ are
+  archives_heard sent answer (Misses how) is are = nothing_more begun.cluster.policy _ _ are
+
+pub turns_brought : (begun : Begun) (past : List Step) (turns : List Turn) → AreTurns begun past turns → BroughtIn begun turns
+turns_brought begun [] [] are = none_brought begun.cluster.policy
+turns_brought begun [] (turn ∷ turns) are = absurd are
+turns_brought begun (Gave sent ∷ past) [] are = absurd are
+turns_brought begun (Gave sent ∷ past) (Sends same ∷ turns) are = archives_sent begun turns same (turns_brought begun past turns are.1)
+turns_brought begun (Gave sent ∷ past) (Hears same meaning ∷ turns) are = absurd are
+turns_brought begun (Told sent answer ∷ past) [] are = absurd are
+turns_brought begun (Told sent answer ∷ past) (Sends same ∷ turns) are = absurd are
+turns_brought begun (Told sent answer ∷ past) (Hears same meaning ∷ turns) are =
+    archives_heard begun turns same answer meaning (subst (λ (one : Sent). IsMeant begun turns one.msg answer meaning) (sym are.0) are.1) (turns_brought begun past turns are.2)
 
 pub turns_together : (begun : Begun) (past : List Step) (turns : List Turn) → AreTurns begun past turns → AreTogether (facts_in begun turns).archives
-turns_together begun [] [] are = none_together
-turns_together begun [] (turn ∷ turns) are = absurd are
-turns_together begun (Gave sent ∷ past) [] are = absurd are
-turns_together begun (Gave sent ∷ past) (Sends same ∷ turns) are = archives_sent begun turns same (turns_together begun past turns are.1)
-turns_together begun (Gave sent ∷ past) (Hears same meaning ∷ turns) are = absurd are
-turns_together begun (Told sent answer ∷ past) [] are = absurd are
-turns_together begun (Told sent answer ∷ past) (Sends same ∷ turns) are = absurd are
-turns_together begun (Told sent answer ∷ past) (Hears same meaning ∷ turns) are =
-    archives_heard begun turns same answer meaning (subst (λ (one : Sent). IsMeant begun turns one.msg answer meaning) (sym are.0) are.1) (turns_together begun past turns are.2)
+turns_together begun past turns are = (turns_brought begun past turns are).together
 
 -- ---- one list of turns
 

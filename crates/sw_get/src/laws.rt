@@ -3,17 +3,24 @@
 ghost use Rattle.std.specs.Prelude.{◌≡◌, ℕ, List};
 ghost use Rattle.sw_types.specs.Object.{ObjectModel};
 ghost use Rattle.sw_message.specs.Learnt.{AreKnown, Learnt};
-ghost use Rattle.sw_message.specs.Transcript.{IsRun, Step};
+ghost use Rattle.sw_message.specs.Transcript.{IsRun, Next, Step};
 ghost use Rattle.sw_message.specs.declared.miss.Miss.{Miss as AMiss};
 ghost use Rattle.sw_message.specs.declared.target.Target.{Target as ATarget};
 ghost use Rattle.sw_get.specs.Causes.{IsAbsent, IsBook, IsBuried, IsOvertaken, IsPutFound, IsTooFew, IsUnanswered};
 ghost use Rattle.sw_get.specs.Get.{AreTurns, Begun, IsBegun, IsEnd, IsNext, Turn};
+ghost use Rattle.sw_get.specs.declared.end.GetEnd.{GetEnd as AGetEnd};
 ghost use Rattle.sw_get.specs.declared.end.GetEnd.TheVariants as gets;
 ghost use Rattle.sw_get.specs.declared.round_end.KeptEvent.{KeptEvent as AnEvent};
 
 /// A transcript has one list of turns: each answer has one meaning.
 pub fn turns_law()
     ensures { (begun : Begun) (past : List Step) (one other : List Turn) → AreTurns begun past one → AreTurns begun past other → one ≡ other }
+{}
+
+/// After a transcript of a get one thing comes next, and it has one end at most.
+pub fn machine_law()
+    ensures one_next { (begun : Begun) (past : List Step) (one other : Next) → IsNext begun past one → IsNext begun past other → one ≡ other }
+    ensures one_end { (begun : Begun) (past : List Step) (one other : AGetEnd) → IsBegun begun → IsEnd begun past one → IsEnd begun past other → one ≡ other }
 {}
 
 /// A get finds an object that was put under its name, from k archives of that put, at a stamp that some answer showed as a durable

@@ -15,7 +15,7 @@ mod stepping;
 
 pub use crate::end::GetEnd;
 pub use crate::get::GetOp;
-pub use crate::laws::{end_law, found_law, turns_law};
+pub use crate::laws::{end_law, found_law, machine_law, turns_law};
 pub use crate::round_end::{Going, KeptEvent, RoundEnd};
 
 #[cfg(test)]

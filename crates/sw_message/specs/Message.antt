@@ -30,3 +30,8 @@ IsMember cluster device = is_among (ids_of cluster) device ≡ true
 -- whether the device is a primary of the place; else it is a handoff
 abbrev pub is_primary : ClusterModel → ℕ → PlaceModel → Bool
 is_primary cluster device place = is_among (column_of cluster place.part) device
+
+-- messages that ask the same, whatever bytes go with them
+abbrev pub AreAlike : Msg → Msg → Type 0
+AreAlike (PutFrag place stamp index bytes) (PutFrag other at of more) = (place ≡ other) × (stamp ≡ at) × (index ≡ of)
+AreAlike one other = one ≡ other

@@ -1,5 +1,6 @@
 -- The transcript of an operation: what it handed out and what became of it, the latest step first.
-use Rattle.std.specs.Prelude.{◌≡◌, ℕ, ◌==◌, Bool, true, false, not, List, [], ◌∷◌, filter, find, Option, Some, None, ⊤}
+use Rattle.std.specs.Prelude.{◌≡◌, ℕ, ◌==◌, Bool, true, false, not, List, [], ◌∷◌, filter, find, Contains, Option, Some, None, ⊤}
+use Rattle.sw_message.specs.Message.{AreAlike}
 use Rattle.sw_message.specs.declared.reply.Reply.{Reply}
 use Rattle.sw_message.specs.declared.sent.Sent.{Sent}
 
@@ -19,6 +20,10 @@ abbrev pub given : List Step → List Sent
 given [] = []
 given (Gave sent ∷ past) = sent ∷ given past
 given (Told sent answer ∷ past) = given past
+
+-- a device was not sent such a message before
+abbrev pub IsFirst : List Step → Sent → Type 0
+IsFirst past sent = (other : Sent) → Contains (given past) other → other.device ≡ sent.device → AreAlike other.msg sent.msg → ⊥
 
 abbrev pub is_not : ℕ → Sent → Bool
 is_not ticket sent = not (sent.ticket == ticket)

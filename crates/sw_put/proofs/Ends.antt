@@ -1,9 +1,9 @@
 -- Why a put ended as it did.
-use Rattle.std.proofs.Common.{◌≡◌, ◌⊎◌, inl, inr, ⊎_elim, ℕ, ◌+◌, ◌≤◌, ◌<◌, Bool, true, false, not, ◌&&◌, ◌||◌, if◌then◌else◌, List, [], drop, get_or, length, Contains, Option, Some, None, is_some, refl, sym, ap, subst, ◌∙◌, arith}
+use Rattle.std.proofs.Common.{◌≡◌, ◌⊎◌, inl, inr, ⊎_elim, ℕ, ◌+◌, ◌≤◌, ◌<◌, Bool, true, false, not, ◌&&◌, ◌||◌, if◌then◌else◌, List, [], drop, get_or, length, map, Contains, Option, Some, None, is_some, refl, sym, ap, subst, ◌∙◌, arith}
 use Rattle.std.specs.Prelude.{nat_lt}
 use Rattle.std.specs.List.{count_by, slice_get, sum_by}
 use Rattle.std.proofs.lemmas.Bool.{and_from, and_right, cases_lt, cond-false, cond-true, cond_both, le-ltb, lt-ltb, ltb-false, ltb-true, or_from, or_left, or_right}
-use Rattle.std.proofs.lemmas.List.{drop_all, length-map, nil_from_length}
+use Rattle.std.proofs.lemmas.List.{drop_all, length-append, length-map, nil_from_length}
 use Rattle.std.proofs.lemmas.List.Elements.{All-contains, All-weaker}
 use Rattle.std.proofs.lemmas.List.Sums.{sum_by-append}
 use Rattle.std.proofs.lemmas.Option.{same_Some, slice_get-get_or, slice_get_within}
@@ -29,12 +29,13 @@ use Rattle.sw_put.specs.Put.{Begun, IsBegun, IsNext, commits, commits_due, commi
 use Rattle.sw_quorum.specs.Targets.{targets_from}
 use Rattle.sw_put.specs.declared.end.PutEnd.{PutEnd}
 use Rattle.sw_put.specs.declared.end.PutEnd.TheVariants.{Created, Superseded, TooFewCommits, TooFewSynced}
-use Rattle.sw_put.specs.declared.errand.Errand.TheVariants.{StoreAt}
+use Rattle.sw_put.specs.declared.errand.Errand.TheVariants.{CommitAt, StoreAt}
 use Rattle.sw_put.proofs.Causes.{IsMade, counted, told-all}
 use Rattle.sw_put.proofs.Dues.{commits_due_by, length-stores_due, replacement-at, store-at, stores_due_by}
 use Rattle.sw_put.proofs.Homes.{IsFit, known}
+use Rattle.sw_put.proofs.Listed.{from-listed, is-listed, listed-apart, with_device}
 use Rattle.sw_put.proofs.Transcripts.{commits-balance, counts_as, ended, grew, over-all, over-closed, own, stores-balance}
-use Rattle.sw_put.proofs.Warrants.{device-once, index-once, indices-apart}
+use Rattle.sw_put.proofs.Warrants.{device-once, devices-once, index-once, indices-apart}
 use Rattle.sw_put.proofs.Weights.{commit_weight, has_device, has_index, is_target, primary-there, same_target, store_weight, target_is_itself}
 
 -- ---- quorums
@@ -233,7 +234,8 @@ module _ (begun : Begun) (past : List Step) (valid : IsBegun begun) (run : IsRun
 
   -- an index that is not among those that are stored has a miss
   other-index : highest (floors (stores past)) ≡ None → (index : ℕ) → index < begun.cluster.policy.k + begun.cluster.policy.m
-      → ((target : Target) × Contains (done (stores past)) target × (target.index ≡ index)) ⊎ ((target : Target) × (miss : Miss) × (target.index ≡ index) × WasMissed begun past target miss)
+      → ((target : Target) × Contains (done (stores past)) target × (target.index ≡ index))
+      ⊎ ((target : Target) × (miss : Miss) × (target.index ≡ index) × WasMissed begun past target miss × Contains (misses (stores past)) (target.device, miss))
   other-index none index below = elim (cases_lt 0 (sum_by (has_index index) (done (stores past)))) [
     | inl some ↦ inl (some-counted (λ (target : Target). target.index) index (done (stores past)) some)
     | inr few ↦
@@ -246,8 +248,40 @@ module _ (begun : Begun) (past : List Step) (valid : IsBegun begun) (run : IsRun
           primary-there 0 (primaries begun) index (omega arith) (omega (arith, below, column_length begun.cluster (place_of begun).part valid.rules)),
         ) in
         let one = some-counted (λ (one : Target × Miss). one.0.index) index (missed (stores past)) some in
-        inr (one.0.0, one.0.1, one.2, All-contains (λ (one : Target × Miss). WasMissed begun past one.0 one.1) (missed (stores past)) one.0 (told-all begun valid past run).misses one.1)
+        inr (
+          one.0.0,
+          one.0.1,
+          one.2,
+          All-contains (λ (one : Target × Miss). WasMissed begun past one.0 one.1) (missed (stores past)) one.0 (told-all begun valid past run).misses one.1,
+          is-listed (missed (stores past)) one.0 one.1,
+        )
   ]
+
+  -- each that is listed was the miss of a fragment
+  listed-stores : (device : ℕ) (miss : Miss) → Contains (misses (stores past)) (device, miss) → (index : ℕ) × WasMissed begun past (record { index = index; device = device }) miss
+  listed-stores device miss has =
+      let from = from-listed (missed (stores past)) device miss has in (
+        from.0.0.index,
+        subst (λ (one : ℕ × Miss). WasMissed begun past (record { index = from.0.0.index; device = one.0 }) one.1) from.2
+            (All-contains (λ (one : Target × Miss). WasMissed begun past one.0 one.1) (missed (stores past)) from.0 (told-all begun valid past run).misses from.1),
+      )
+
+  -- each message was stored or missed
+  all-messages : highest (floors (stores past)) ≡ None → commits_due begun past ≡ [] → length (done (stores past)) + length (misses (stores past)) ≡ length (given past)
+  all-messages none nothing =
+      omega (
+        arith,
+        stores-parts (λ _. 1) none,
+        sum-ones (done (stores past)),
+        sum-ones (missed (stores past)),
+        sum-ones (stores_due begun past),
+        length-map (missed (stores past)) with_device,
+        length-append (map StoreAt (stores_due begun past)) (map CommitAt (commits_due begun past)),
+        length-map (stores_due begun past) StoreAt,
+        ap (λ (these : List Target). length (map CommitAt these)) nothing,
+        (laws.over (put_message begun) (due begun past) past over).0,
+        laws.given-within (put_message begun) (own begun) (due begun) past run (grew begun past run),
+      )
 
   -- each handoff was used
   used : highest (floors (stores past)) ≡ None → length (done (stores past)) < begun.cluster.policy.q → (i d : ℕ) → i < length (handoffs begun)
@@ -290,8 +324,9 @@ module _ (begun : Begun) (past : List Step) (valid : IsBegun begun) (run : IsRun
   too_few_synced have told (few_synced none few same) =
       let number : have ≡ length (done (stores past)) = cc in
       let list : told ≡ misses (stores past) = cc in
-      let no_commit : commits past ≡ [] = no_commits (or_right (is_some (highest (floors (stores past)))) (nat_lt (length (done (stores past))) begun.cluster.policy.q) (lt-ltb (length (done (stores past))) begun.cluster.policy.q few)) in
-      record {
+      let refused = or_right (is_some (highest (floors (stores past)))) (nat_lt (length (done (stores past))) begun.cluster.policy.q) (lt-ltb (length (done (stores past))) begun.cluster.policy.q few) in
+      let no_commit : commits past ≡ [] = no_commits refused in
+      subst (IsTooFewSynced begun past have) (sym list) (record {
         counted = number;
         few = omega (arith, number, few);
         no_floor = no_told none (ap (λ (these : List (Judged Target)). highest (floors these)) no_commit);
@@ -300,12 +335,16 @@ module _ (begun : Begun) (past : List Step) (valid : IsBegun begun) (run : IsRun
         stored = All-weaker (λ target. IsFit begun target × WasStored begun past target) (WasStored begun past) (λ target was. was.1) (done (stores past)) (known begun valid past run).stored;
         others = other-index none;
         handoffs_used = used none few;
-        misses_are = list;
-      }
+        misses_are = refl;
+        listed = listed-stores;
+        devices = listed-apart (missed (stores past)) (λ k. omega (arith, devices-once begun past run valid k));
+        all = omega (arith, number, all-messages none (refused-plan begun (stores past) refused));
+      })
 
-  -- each that was stored was made durable or has a miss
+  -- each that was stored was made durable or has a miss, which is listed
   each-made : highest (floors (stores past)) ≡ None → begun.cluster.policy.q ≤ length (done (stores past)) → highest (floors (commits past)) ≡ None
-      → (target : Target) → Contains (done (stores past)) target → WasCommitted begun past target ⊎ ((miss : Miss) × WasNotCommitted begun past target miss)
+      → (target : Target) → Contains (done (stores past)) target
+      → WasCommitted begun past target ⊎ ((miss : Miss) × WasNotCommitted begun past target miss × Contains (misses (commits past)) (target.device, miss))
   each-made none enough no_floor target has = elim (cases_lt 0 (count_by (is_target target) (done (commits past)))) [
     | inl some ↦
         let one = some-passing (is_target target) (done (commits past)) some in
@@ -314,12 +353,31 @@ module _ (begun : Begun) (past : List Step) (valid : IsBegun begun) (run : IsRun
         let some : 0 < count_by (λ (one : Target × Miss). is_target target one.0) (missed (commits past)) =
         omega (arith, few, commits-parts (λ one. one_if (is_target target one)) none enough no_floor, counted-among (is_target target) (done (stores past)) target (target_is_itself target) has) in
         let one = some-passing (λ (one : Target × Miss). is_target target one.0) (missed (commits past)) some in
+        let same = same_target target one.0.0 one.2 in
         inr (
           one.0.1,
-          subst (λ these. WasNotCommitted begun past these one.0.1) (same_target target one.0.0 one.2)
+          subst (λ these. WasNotCommitted begun past these one.0.1) same
               (All-contains (λ (one : Target × Miss). WasNotCommitted begun past one.0 one.1) (missed (commits past)) one.0 (told-all begun valid past run).unmade one.1),
+          subst (λ (these : Target). Contains (misses (commits past)) (these.device, one.0.1)) same (is-listed (missed (commits past)) one.0 one.1),
         )
   ]
+
+  -- each that is listed was the miss of one that was stored
+  listed-commits : highest (floors (stores past)) ≡ None → begun.cluster.policy.q ≤ length (done (stores past)) → highest (floors (commits past)) ≡ None → (device : ℕ) (miss : Miss) → Contains (misses (commits past)) (device, miss)
+      → (index : ℕ) × Contains (done (stores past)) (record { index = index; device = device }) × WasNotCommitted begun past (record { index = index; device = device }) miss
+  listed-commits none enough no_floor device miss has =
+      let from = from-listed (missed (commits past)) device miss has in
+      let target = from.0.0 in
+      let counted : 0 < count_by (λ (one : Target × Miss). is_target target one.0) (missed (commits past)) =
+      counted-among (λ (one : Target × Miss). is_target target one.0) (missed (commits past)) from.0 (target_is_itself target) from.1 in
+      let some : 0 < count_by (is_target target) (done (stores past)) = omega (arith, counted, commits-parts (λ one. one_if (is_target target one)) none enough no_floor) in
+      let stored = some-passing (is_target target) (done (stores past)) some in (
+        target.index,
+        subst (λ (one : ℕ × Miss). Contains (done (stores past)) (record { index = target.index; device = one.0 })) from.2
+            (subst (Contains (done (stores past))) (same_target target stored.0 stored.2) stored.1),
+        subst (λ (one : ℕ × Miss). WasNotCommitted begun past (record { index = target.index; device = one.0 }) one.1) from.2
+            (All-contains (λ (one : Target × Miss). WasNotCommitted begun past one.0 one.1) (missed (commits past)) from.0 (told-all begun valid past run).unmade from.1),
+      )
 
   pub too_few_made : (have : ℕ) (told : List (ℕ × Miss)) → Settled begun past (TooFewCommits have told) → IsTooFewCommits begun past have told
   too_few_made have told (first_floor floor is same) = absurd (cc)
@@ -329,8 +387,7 @@ module _ (begun : Begun) (past : List Step) (valid : IsBegun begun) (run : IsRun
   too_few_made have told (few_made none enough few no_floor same) =
       let number : have ≡ length (done (commits past)) = cc in
       let list : told ≡ misses (commits past) = cc in
-      let device_miss : Target × Miss → ℕ × Miss = λ one. (one.0.device, one.1) in
-      record {
+      subst (IsTooFewCommits begun past have) (sym list) (record {
         counted = number;
         few = omega (arith, number, few);
         no_floor = no_told none no_floor;
@@ -343,12 +400,13 @@ module _ (begun : Begun) (past : List Step) (valid : IsBegun begun) (run : IsRun
             omega (
               arith,
               number,
-              ap length list,
-              length-map (missed (commits past)) device_miss,
+              length-map (missed (commits past)) with_device,
               commits-parts (λ _. 1) none enough no_floor,
               sum-ones (done (commits past)),
               sum-ones (missed (commits past)),
               sum-ones (done (stores past)),
             );
-        misses_are = list;
-      }
+        misses_are = refl;
+        listed = listed-commits none enough no_floor;
+        devices = listed-apart (missed (commits past)) (λ k. omega (arith, commits-parts (has_device k) none enough no_floor, device-once begun past run valid k));
+      })

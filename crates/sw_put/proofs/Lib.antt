@@ -3,6 +3,7 @@ pub mod Changes
 pub mod Dues
 pub mod Ends
 pub mod Homes
+pub mod Listed
 pub mod Transcripts
 pub mod Warrants
 pub mod Weights

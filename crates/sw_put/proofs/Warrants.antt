@@ -25,7 +25,7 @@ use Rattle.sw_put.proofs.Homes.{Fits, IsFit, fits, known}
 use Rattle.sw_put.proofs.Transcripts.{IsPut, grew, stores-balance}
 use Rattle.sw_put.proofs.Weights.{handoffs-devices, has_device, has_index, primaries-devices, primary-once, replaced}
 
--- ---- no two that were stored have one index, or one device
+-- ---- no two that were stored have one index, and no two that were stored or missed have one device
 
 module _ (begun : Begun) (past : List Step) (run : IsRun (IsNext begun) past) where
   within : (w : Target → ℕ) → sum_by w (done (stores past)) + sum_by (λ (miss : Target × Miss). w miss.0) (missed (stores past)) ≤ sum_by w (targets_from 0 (primaries begun)) + sum_by w (replacements (missed (stores past)) (handoffs begun))
@@ -40,8 +40,8 @@ module _ (begun : Begun) (past : List Step) (run : IsRun (IsNext begun) past) wh
   pub index-once : (k : ℕ) → sum_by (has_index k) (done (stores past)) ≤ 1
   index-once k = omega (arith, within (has_index k), primary-once 0 (primaries begun) k, replaced (λ n. one_if (n == k)) (missed (stores past)) (handoffs begun))
 
-  pub device-once : IsBegun begun → (k : ℕ) → sum_by (has_device k) (done (stores past)) ≤ 1
-  device-once valid k =
+  pub devices-once : IsBegun begun → (k : ℕ) → sum_by (has_device k) (done (stores past)) + sum_by (λ (miss : Target × Miss). has_device k miss.0) (missed (stores past)) ≤ 1
+  devices-once valid k =
       omega (
         arith,
         within (has_device k),
@@ -49,6 +49,9 @@ module _ (begun : Begun) (past : List Step) (run : IsRun (IsNext begun) past) wh
         handoffs-devices (λ n. one_if (n == k)) (missed (stores past)) (handoffs begun),
         device_once begun.cluster (place_of begun).part valid.rules (part_small begun.cluster begun.name) k,
       )
+
+  pub device-once : IsBegun begun → (k : ℕ) → sum_by (has_device k) (done (stores past)) ≤ 1
+  device-once valid k = omega (arith, devices-once valid k)
 
   pub indices-apart : AllPairs (λ (one other : Target). one.index ≢ other.index) (done (stores past))
   indices-apart = apart-from_once (λ (target : Target). target.index) (done (stores past)) index-once

@@ -73,11 +73,16 @@ pub record IsTooFewSynced (begun : Begun) (past : List Step) (have : ℕ) (misse
   pub targets : List Target
   pub many : AreMany have targets
   pub stored : All (WasStored begun past) targets
-  -- each index is among them or has a miss
+  -- each index is among them or has a miss, which is listed
   pub others : (index : ℕ) → index < begun.cluster.policy.k + begun.cluster.policy.m
-      → ((target : Target) × Contains targets target × (target.index ≡ index)) ⊎ ((target : Target) × (miss : Miss) × (target.index ≡ index) × WasMissed begun past target miss)
+      → ((target : Target) × Contains targets target × (target.index ≡ index))
+      ⊎ ((target : Target) × (miss : Miss) × (target.index ≡ index) × WasMissed begun past target miss × Contains missed (target.device, miss))
   pub handoffs_used : All (λ handoff. (index : ℕ) × WasSent begun past (record { index = index; device = handoff })) (handoffs begun)
   pub misses_are : missed ≡ misses (stores past)
+  -- each that is listed was the miss of a fragment; no device is listed twice; and each message was stored or is listed
+  pub listed : (device : ℕ) (miss : Miss) → Contains missed (device, miss) → (index : ℕ) × WasMissed begun past (record { index = index; device = device }) miss
+  pub devices : AllPairs (λ one other. one.0 ≢ other.0) missed
+  pub all : have + length missed ≡ length (given past)
 
 pub record IsTooFewCommits (begun : Begun) (past : List Step) (have : ℕ) (missed : List (ℕ × Miss)) : Type 0 where
   pub counted : have ≡ length (done (commits past))
@@ -87,8 +92,13 @@ pub record IsTooFewCommits (begun : Begun) (past : List Step) (have : ℕ) (miss
   pub targets : List Target
   pub many : AreMany have targets
   pub committed : All (WasCommitted begun past) targets
-  -- each that was stored was made durable or has a miss
-  pub each : (target : Target) → Contains (done (stores past)) target → WasCommitted begun past target ⊎ ((miss : Miss) × WasNotCommitted begun past target miss)
+  -- each that was stored was made durable or has a miss, which is listed
+  pub each : (target : Target) → Contains (done (stores past)) target
+      → WasCommitted begun past target ⊎ ((miss : Miss) × WasNotCommitted begun past target miss × Contains missed (target.device, miss))
   -- each of them once
   pub others : have + length missed ≡ length (done (stores past))
   pub misses_are : missed ≡ misses (commits past)
+  -- each that is listed was the miss of one that was stored; and no device is listed twice
+  pub listed : (device : ℕ) (miss : Miss) → Contains missed (device, miss)
+      → (index : ℕ) × Contains (done (stores past)) (record { index = index; device = device }) × WasNotCommitted begun past (record { index = index; device = device }) miss
+  pub devices : AllPairs (λ one other. one.0 ≢ other.0) missed

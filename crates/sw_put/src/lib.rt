@@ -9,7 +9,7 @@ mod planning;
 mod put;
 
 pub use crate::end::PutEnd;
-pub use crate::laws::end_law;
+pub use crate::laws::{end_law, machine_law};
 pub use crate::put::PutOp;
 
 #[cfg(test)]

@@ -8,6 +8,7 @@ use Rattle.sw_message.specs.declared.miss.Miss.{Miss}
 use Rattle.sw_message.specs.declared.reply.Reply.{Reply}
 use Rattle.sw_recon.specs.Causes.{AreDone, IsCovered, WasKept, WasMissed, WasRemoved, WasStored, WasTold}
 use Rattle.sw_recon.specs.Revert.{Begun, kept_as}
+use Rattle.sw_recon.specs.Sends.{IsUncovered}
 use Rattle.sw_recon.specs.declared.kept.KeptCause.{KeptCause}
 use Rattle.sw_recon.specs.declared.kept.KeptCause.TheVariants.{Missed, NoMark, NotDurable}
 use Rattle.sw_recon.specs.declared.kept.KeptEntry.{KeptEntry}
@@ -21,6 +22,9 @@ module _ (past : List Step) (step : Step) where
   module _ (begun : Begun) where
     missed-later : (entry : Entry) (how : Miss) → WasMissed begun past entry how → WasMissed begun (step ∷ past) entry how
     missed-later entry how was = record { below = was.below; device = was.device; msg = was.msg; about = was.about; answer = was.answer; told = told-later was.device was.msg was.answer was.told; miss = was.miss }
+
+    pub uncovered-later : (entry : Entry) → IsUncovered begun past entry → IsUncovered begun (step ∷ past) entry
+    uncovered-later entry is = record { listing = is.listing; told = told-later _ _ _ is.told; not_covered = is.not_covered }
 
     pub stored-later : (entry : Entry) → WasStored begun past entry → WasStored begun (step ∷ past) entry
     stored-later entry was = record { durable = was.durable; bytes = was.bytes; told = told-later _ _ _ was.told }

@@ -17,9 +17,10 @@ use Rattle.sw_message.specs.declared.reply.Reply.{Reply}
 use Rattle.sw_message.specs.declared.reply.Reply.TheVariants as reply
 use Rattle.sw_message.specs.declared.sent.Sent.{Sent}
 use Rattle.sw_message.specs.declared.spoil.Spoil.{Spoil}
-use Rattle.sw_recon.specs.Causes.{AreDone, IsAbout, IsCovered, IsDone, IsMissOf, IsUnanswered, ListsOwn, WasKept, WasRemoved, WasStored, WasTold}
+use Rattle.sw_recon.specs.Causes.{AreDone, IsAbout, IsCovered, IsCoveredBy, IsDone, IsMissOf, IsUnanswered, ListsOwn, WasKept, WasRemoved, WasStored, WasTold}
 use Rattle.sw_recon.specs.Course.{Course, most_entries}
 use Rattle.sw_recon.specs.Revert.{Begun, IsNext, IsSpoilt, IsStatus, Leads, after_by, asked, committed, covers, fetched, forbidden, goes_on, kept_as, keeps, next_at, own_message, removed, removes, started_by, stored, total, treat, treat_message}
+use Rattle.sw_recon.specs.Sends.{IsUncovered}
 use Rattle.sw_recon.specs.declared.kept.KeptCause.{KeptCause}
 use Rattle.sw_recon.specs.declared.kept.KeptCause.TheVariants.{Missed, NoMark, NotDurable}
 use Rattle.sw_recon.specs.declared.kept.KeptEntry.{KeptEntry}
@@ -29,7 +30,7 @@ use Rattle.sw_recon.specs.declared.status.Status.TheVariants.{Ends, Starts, Trea
 use Rattle.sw_recon.specs.declared.treatment.Treatment.{Treatment}
 use Rattle.sw_recon.specs.declared.treatment.Treatment.TheVariants.{Ask, Commit, Fetch, Remove, Store}
 use Rattle.sw_recon.proofs.Covers.{above_shown, covers_shown, shown_covers}
-use Rattle.sw_recon.proofs.Done.{covered-later, done-kept, done-later, done-removed, stored-later, told-later}
+use Rattle.sw_recon.proofs.Done.{covered-later, done-kept, done-later, done-removed, stored-later, told-later, uncovered-later}
 use Rattle.sw_recon.proofs.Machine.{IsAnswered, IsHanded, answered, handed, one_status}
 use Rattle.sw_recon.proofs.Treats.{treats_first, treats_later}
 
@@ -37,7 +38,7 @@ use Rattle.sw_recon.proofs.Treats.{treats_first, treats_later}
 
 abbrev pub IsTreated : Begun → List Step → Entry → Treatment → Type 0
 IsTreated begun past entry Ask = ⊤
-IsTreated begun past entry Fetch = entry.durable ≡ true
+IsTreated begun past entry Fetch = (entry.durable ≡ true) × IsUncovered begun past entry
 IsTreated begun past entry (Store bytes) =
     (entry.durable ≡ true) × WasTold past begun.device (message.Fetch begun.place entry.stamp entry.index) (Some (reply.Fragment bytes)) × IsArchiveOf begun.cluster begun.place entry.stamp entry.index bytes
 IsTreated begun past entry Commit = WasStored begun past entry
@@ -63,7 +64,7 @@ Knows begun past (Ends (Unanswered device)) = IsUnanswered begun past device
 module _ (begun : Begun) (past : List Step) (step : Step) where
   treated-later : (entry : Entry) (treatment : Treatment) → IsTreated begun past entry treatment → IsTreated begun (step ∷ past) entry treatment
   treated-later entry Ask is = tt
-  treated-later entry Fetch is = is
+  treated-later entry Fetch is = (is.0, uncovered-later past step begun entry is.1)
   treated-later entry (Store bytes) (durable, told, archive) = (durable, told-later past step _ _ _ told, archive)
   treated-later entry Commit is = stored-later past step begun entry is
   treated-later entry Remove is = covered-later past step begun entry is
@@ -118,7 +119,7 @@ module _ (begun : Begun) (past : List Step) (entry : Entry) (later : List Entry)
   here : (treatment : Treatment) (answer : Option Reply) → WasTold (after treatment answer) (sent treatment).device (sent treatment).msg answer
   here treatment answer = (ticket, (0, omega arith, refl))
 
-  about : (treatment : Treatment) → IsAbout begun entry (sent treatment).device (sent treatment).msg
+  pub about : (treatment : Treatment) → IsAbout begun entry (sent treatment).device (sent treatment).msg
   about Ask = (refl, refl)
   about Fetch = (refl, refl, refl, refl)
   about (Store bytes) = (refl, refl, refl, refl)
@@ -147,15 +148,19 @@ module _ (begun : Begun) (past : List Step) (entry : Entry) (later : List Entry)
         let now = course-later begun past (Told (sent treatment) answer) (at treatment) known in
         record { listing = now.listing; own = now.own; front = now.front; are = now.are; done = now.done; below = now.below; treated = is }
 
+  not-covered : (listing : ListingModel) → covers listing entry ≡ false → IsCoveredBy begun entry listing → ⊥
+  not-covered listing none shows = true≢false (sym (shown_covers listing entry begun.place shows) ∙ none)
+
   -- its primary listed what it has
   listed-known : (listing : ListingModel) (is_covered is_durable : Bool) → covers listing entry ≡ is_covered → entry.durable ≡ is_durable → IsCourse begun past (at Ask)
       → Knows begun (after Ask (Some (reply.Held listing))) (if is_covered then goes_on (at Ask) Remove else if is_durable then goes_on (at Ask) Fetch else keeps (total begun) (at Ask) NotDurable)
   listed-known listing true is_durable covered durable known =
       goes-known Ask (Some (reply.Held listing)) known Remove
       (record { below = known.below; msg = message.Ask begun.place; given = reply.Held listing; told = here Ask (Some (reply.Held listing)); place = refl; shows = covers_shown listing entry begun.place covered })
-  listed-known listing false true covered durable known = goes-known Ask (Some (reply.Held listing)) known Fetch durable
-  listed-known listing false false covered durable known = kept-known Ask (Some (reply.Held listing)) known NotDurable
-      (known.below, durable, listing, here Ask (Some (reply.Held listing)), λ shows. true≢false (sym (shown_covers listing entry begun.place shows) ∙ covered))
+  listed-known listing false true covered durable known =
+      goes-known Ask (Some (reply.Held listing)) known Fetch (durable, record { listing = listing; told = here Ask (Some (reply.Held listing)); not_covered = not-covered listing covered })
+  listed-known listing false false covered durable known =
+      kept-known Ask (Some (reply.Held listing)) known NotDurable (known.below, durable, listing, here Ask (Some (reply.Held listing)), not-covered listing covered)
 
   asked-known : (answer : Option Reply) → IsCourse begun past (at Ask) → Knows begun (after Ask answer) (asked (total begun) (at Ask) answer)
   asked-known None known = missed-known Ask None known miss.NoReply refl
@@ -167,7 +172,7 @@ module _ (begun : Begun) (past : List Step) (entry : Entry) (later : List Entry)
   fetched-known None spoil checked known = missed-known Fetch None known miss.NoReply refl
   fetched-known (Some (reply.Fragment bytes)) (Some spoil) checked known = missed-known Fetch (Some (reply.Fragment bytes)) known (miss.Spoiled spoil) (spoil, refl, checked)
   fetched-known (Some (reply.Fragment bytes)) None checked known =
-      goes-known Fetch (Some (reply.Fragment bytes)) known (Store bytes) (known.treated, here Fetch (Some (reply.Fragment bytes)), checked)
+      goes-known Fetch (Some (reply.Fragment bytes)) known (Store bytes) (known.treated.0, here Fetch (Some (reply.Fragment bytes)), checked)
   fetched-known (Some (reply.Gone listing)) spoil checked known = missed-known Fetch (Some (reply.Gone listing)) known miss.Gone refl
   fetched-known (Some other) spoil checked known = missed-known Fetch (Some other) known (miss_of other) refl
 

@@ -1,9 +1,12 @@
+pub mod Advances
 pub mod Changes
 pub mod Covers
 pub mod Done
+pub mod Firsts
 pub mod Handed
 pub mod Handings
 pub mod Known
 pub mod Machine
 pub mod Results
+pub mod Sending
 pub mod Treats

@@ -1,5 +1,5 @@
 -- A transcript has one status, and at most one message is open.
-use Rattle.std.proofs.Common.{◌≡◌, ◌⊎◌, inl, inr, ℕ, ◌==◌, false, not, cond, List, [], ◌∷◌, length, Option, Some, None, refl, sym, ap, subst, ◌∙◌}
+use Rattle.std.proofs.Common.{◌≡◌, ◌⊎◌, inl, inr, ℕ, ◌==◌, Bool, true, false, not, cond, List, [], ◌∷◌, length, Option, Some, None, refl, sym, ap, subst, ◌∙◌}
 use Rattle.std.specs.List.{filter, find}
 use Rattle.std.proofs.lemmas.Bool.{cases_Bool, cond-false, cond-true}
 use Rattle.std.proofs.lemmas.Option.{none-some, same_Some}
@@ -7,14 +7,15 @@ use Rattle.sw_hashdir.specs.declared.entry.Entry.{Entry}
 use Rattle.sw_hashpath.specs.Place.{PlaceModel}
 use Rattle.sw_archive.proofs.Faults.{no_fault, one_fault}
 use Rattle.sw_ring.specs.Cluster.{ClusterModel}
-use Rattle.sw_message.specs.Transcript.{Gave, Hand, IsRun, Step, Told, given, is_empty, is_not, open_at, opens}
+use Rattle.sw_message.specs.Transcript.{Gave, Hand, IsRun, Next, Step, Told, given, is_empty, is_not, is_waiting, open_at, opens}
 use Rattle.sw_message.specs.declared.reply.Reply.{Reply}
 use Rattle.sw_message.specs.declared.reply.Reply.TheVariants as reply
 use Rattle.sw_message.specs.declared.sent.Sent.{Sent}
 use Rattle.sw_message.specs.declared.spoil.Spoil.{Spoil}
 use Rattle.sw_message.proofs.Spoils.{FaultLaw, asked_or_spoiled, one_spoil}
-use Rattle.sw_recon.specs.Revert.{Begun, IsNext, IsSpoilt, IsStatus, Leads, after_by, next_at, next_or, total}
+use Rattle.sw_recon.specs.Revert.{Begun, IsEnd, IsNext, IsSpoilt, IsStatus, Leads, after_by, next_at, next_or, total}
 use Rattle.sw_recon.specs.Standing.{ends}
+use Rattle.sw_recon.specs.declared.revert_end.RevertEnd.{RevertEnd}
 use Rattle.sw_recon.specs.declared.status.Status.{Status}
 use Rattle.sw_recon.specs.declared.status.Status.TheVariants.{Ends, Starts, Treats}
 use Rattle.sw_recon.specs.declared.treatment.Treatment.{Treatment}
@@ -48,6 +49,18 @@ module _ (begun : Begun) where
   one_status (Gave sent ∷ past) a b x y = one_status past a b x y
   one_status (Told sent answer ∷ past) a b x y =
       one_lead x.0 answer a b x.2 (subst (λ (before : Status). Leads begun before answer b) (one_status past y.0 x.0 y.1 x.1) y.2)
+
+  -- so one thing comes next
+  next-by : (past : List Step) (waits : Bool) (one other : Next) → next_or begun past waits one → next_or begun past waits other → one ≡ other
+  next-by past true one other x y = x ∙ sym y
+  next-by past false one other x y = x.2 ∙ ap (next_at begun (length (given past))) (one_status past x.0 y.0 x.1 y.1) ∙ sym y.2
+
+  pub one_next : (past : List Step) (one other : Next) → IsNext begun past one → IsNext begun past other → one ≡ other
+  one_next past one other x y = next-by past (is_waiting past) one other x y
+
+  -- and there is one end
+  pub one_end : (past : List Step) (one other : RevertEnd) → IsEnd begun past one → IsEnd begun past other → one ≡ other
+  one_end past one other x y = let same = one_status past (Ends one) (Ends other) x.1 y.1 in cc
 
 -- ---- one open message
 

@@ -3,4 +3,5 @@ pub mod Course
 pub mod CourseInside
 pub mod Inside
 pub mod Revert
+pub mod Sends
 pub mod Standing

@@ -12,7 +12,7 @@ mod status;
 mod treatment;
 
 pub use crate::kept::{KeptCause, KeptEntry};
-pub use crate::laws::revert_law;
+pub use crate::laws::{machine_law, revert_law};
 pub use crate::revert::RevertJob;
 pub use crate::revert_end::RevertEnd;
 pub use crate::treatment::Treatment;

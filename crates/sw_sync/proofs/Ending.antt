@@ -6,7 +6,7 @@ use Rattle.std.proofs.lemmas.Bool.{true≢false}
 use Rattle.std.proofs.lemmas.List.{length-map}
 use Rattle.sw_hashpath.specs.Place.{PlaceModel}
 use Rattle.sw_types.proofs.Policies.{bounds}
-use Rattle.sw_ring.specs.Cluster.{ClusterModel}
+use Rattle.sw_ring.specs.Cluster.{ClusterModel, KeepsRules}
 use Rattle.sw_ring.proofs.Roles.{column_length}
 use Rattle.sw_message.specs.Transcript.{Gave, Step, Told, is_empty as is_none, is_not, is_waiting, opens}
 use Rattle.sw_message.specs.declared.reply.Reply.{Reply}
@@ -57,15 +57,15 @@ over_final : (k : ℕ) (state : State) (b : Bool) → is_empty state.due ≡ b �
 over_final k state true is goes due ended = (λ _. due, λ _. ended)
 over_final k state false is goes due ended = (λ over. absurd (true≢false (sym over ∙ goes)), λ none. absurd (true≢false (ap is_empty (sym none) ∙ is)))
 
-module _ (begun : Begun) (valid : IsBegun begun) where
+module _ (begun : Begun) (rules : KeepsRules begun.cluster) where
   some_primaries : map Ask (primaries begun) ≡ [] → ⊥
   some_primaries none =
       omega (
         arith,
         ap length none,
         length-map (primaries begun) Ask,
-        column_length begun.cluster begun.place.part valid.rules,
-        (bounds begun.cluster.policy valid.rules.policy).some_data,
+        column_length begun.cluster begun.place.part rules,
+        (bounds begun.cluster.policy rules.policy).some_data,
       )
 
   advanced_final : (stage : Stage) → IsFinal (advanced begun stage)
@@ -126,8 +126,12 @@ module _ (begun : Begun) (valid : IsBegun begun) where
   is_over (Told sent answer ∷ past) state is =
       subst (IsOver (is_waiting (Told sent answer ∷ past))) (sym is.4) (after_told past is.0 is.2 sent answer (is_over past is.0 is.1) is.3)
 
+-- in a cluster that keeps the rules
+pub over_by_rules : (begun : Begun) → KeepsRules begun.cluster → (past : List Step) (state : State) → IsState begun past state → ends state.stage ≡ true → (is_waiting past ≡ false) × (state.due ≡ [])
+over_by_rules begun rules past state is over = (is_over begun rules past state is).0 over
+
 pub over_settled : (begun : Begun) → IsBegun begun → (past : List Step) (state : State) → IsState begun past state → ends state.stage ≡ true → (is_waiting past ≡ false) × (state.due ≡ [])
-over_settled begun valid past state is over = (is_over begun valid past state is).0 over
+over_settled begun valid past state is over = over_by_rules begun valid.rules past state is over
 
 pub settled_ends : (begun : Begun) → IsBegun begun → (past : List Step) (state : State) → IsState begun past state → is_waiting past ≡ false → state.due ≡ [] → ends state.stage ≡ true
-settled_ends begun valid past state is waiting due = (is_over begun valid past state is).1 waiting due
+settled_ends begun valid past state is waiting due = (is_over begun valid.rules past state is).1 waiting due

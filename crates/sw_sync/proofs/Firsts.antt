@@ -5,6 +5,7 @@ use Rattle.std.proofs.lemmas.Bool.{eq-eqb, eqb-true}
 use Rattle.std.proofs.lemmas.List.Elements.{All-contains, All-contains_itself, All-cons, All-weaker}
 use Rattle.std.proofs.lemmas.List.Sums.{sum_by-append, sum_by-cons}
 use Rattle.std.proofs.lemmas.Option.{same_Some}
+use Rattle.sw_message.specs.Message.{AreAlike}
 use Rattle.sw_message.specs.Transcript.{Gave, IsRun, Step, Told, given, open_at, opens}
 use Rattle.sw_message.specs.declared.message.Msg.{Msg}
 use Rattle.sw_message.specs.declared.message.Msg.TheVariants as message
@@ -14,7 +15,6 @@ use Rattle.sw_quorum.specs.Places.{counted-among, one_if}
 use Rattle.sw_quorum.specs.Transcripts.{closed, found, sums-keep}
 use Rattle.sw_gather.specs.Choices.{same_target}
 use Rattle.sw_gather.proofs.Sources.{same_source, self_same}
-use Rattle.sw_sync.specs.Sends.{AreAlike}
 use Rattle.sw_sync.specs.Sync.{Begun, IsNext, errand_of}
 use Rattle.sw_sync.specs.declared.errand.Errand.{Errand}
 use Rattle.sw_sync.specs.declared.errand.Errand.TheVariants.{Ask, Commit, Delete, Fetch, Store}

@@ -9,7 +9,7 @@ use Rattle.sw_types.specs.Policy.{PolicyModel}
 use Rattle.sw_types.proofs.Policies.{bounds}
 use Rattle.sw_archive.specs.Archive.{ArchiveModel}
 use Rattle.sw_archive.specs.Assemble.{AreEnough, IsNext}
-use Rattle.sw_ring.specs.Cluster.{ClusterModel}
+use Rattle.sw_ring.specs.Cluster.{ClusterModel, KeepsRules}
 use Rattle.sw_ring.proofs.Roles.{column_length}
 use Rattle.sw_message.specs.Spoil.{HasCode}
 use Rattle.sw_message.specs.Transcript.{Gave, Step, Told}
@@ -20,9 +20,10 @@ use Rattle.sw_quorum.specs.Targets.{targets_from}
 use Rattle.sw_quorum.specs.Verdicts.{commit_verdict, store_verdict}
 use Rattle.sw_quorum.specs.declared.verdict.Verdict.{Verdict}
 use Rattle.sw_quorum.specs.declared.verdict.Verdict.TheVariants as verdict
+use Rattle.sw_gather.proofs.Joins.{enough_coded}
 use Rattle.sw_sync.specs.Parts.{Heard, Repair}
 use Rattle.sw_sync.specs.State.{State}
-use Rattle.sw_sync.specs.Sync.{Begun, Brings, Fits, Hears, HearsRepair, IsBegun, IsFetched, IsState, Loses, Meaning, advanced, beginning, brought, burial_of, closed, committed, committed_as, due_after, due_brought, due_fetched, due_retried, fetched, free_in, handoffs, is_lacking, lost, primaries, repair_of, retried, shows_none, shows_plain, stored, total}
+use Rattle.sw_sync.specs.Sync.{Begun, Brings, Fits, Hears, HearsRepair, IsFetched, IsState, Loses, Meaning, advanced, beginning, brought, burial_of, closed, committed, committed_as, due_after, due_brought, due_fetched, due_retried, fetched, free_in, handoffs, is_lacking, lost, primaries, repair_of, retried, shows_none, shows_plain, stored, total}
 use Rattle.sw_sync.specs.declared.errand.Errand.{Errand}
 use Rattle.sw_sync.specs.declared.errand.Errand.TheVariants.{Ask, Commit, Delete, Fetch, Store}
 use Rattle.sw_sync.specs.declared.stage.Stage.{Stage}
@@ -64,10 +65,6 @@ module _ (policy : PolicyModel) where
   IsFitting stage due = StageCoded stage × All (Fits stage) due
 
   -- k archives of the code are enough for each index that is lacking
-  enough : (archives : List ArchiveModel) → All (HasCode policy) archives → 1 ≤ policy.k → length archives ≡ policy.k → AreEnough archives
-  enough [] coded some is = absurd (omega (arith, some, is))
-  enough (first ∷ archives) coded some is = is ∙ sym (All-head (HasCode policy) first archives coded).0
-
   stores-fit : 1 ≤ policy.k → (repair : Repair) → IsCoded repair → All (Fits (Repairs repair)) (due_brought policy.k repair)
   stores-fit some repair is = by_count (length repair.archives == policy.k) refl
     where
@@ -77,7 +74,7 @@ module _ (policy : PolicyModel) where
           All-map (Fits (Repairs repair)) Store repair.lacking
           (All-weaker (λ (target : Target). target.index < policy.k + policy.m) (λ (target : Target). Fits (Repairs repair) (Store target))
           (λ target below. (
-            enough repair.archives is.coded some (eqb-true (length repair.archives) policy.k count),
+            enough_coded policy repair.archives is.coded some (eqb-true (length repair.archives) policy.k count),
             All-weaker (HasCode policy) (λ (archive : ArchiveModel). target.index < archive.k + archive.m) (λ archive code. omega (arith, below, code)) repair.archives is.coded,
           )) repair.lacking is.below)
 
@@ -123,12 +120,12 @@ module _ (policy : PolicyModel) where
 
 -- ---- the machine
 
-module _ (begun : Begun) (valid : IsBegun begun) where
+module _ (begun : Begun) (rules : KeepsRules begun.cluster) where
   abbrev policy : PolicyModel
   policy = begun.cluster.policy
 
   some_data : 1 ≤ policy.k
-  some_data = (bounds policy valid.rules.policy).some_data
+  some_data = (bounds policy rules.policy).some_data
 
   nothing-more : (stage : Stage) (due more : List Errand) → more ≡ [] → IsFitting policy stage due → IsFitting policy stage (due ++ more)
   nothing-more stage due more none is = (is.0, subst (All (Fits stage)) (sym (ap (λ these. due ++ these) none ∙ append-nil due)) is.1)
@@ -178,7 +175,7 @@ module _ (begun : Begun) (valid : IsBegun begun) where
   repair-planned heard stamp =
       let planned = repair_of policy.k (total begun) (primaries begun) heard stamp in
       let targets = targets_from 0 (primaries begun) in
-      let few : 0 + length (primaries begun) ≤ total begun = omega (arith, column_length begun.cluster begun.place.part valid.rules) in (
+      let few : 0 + length (primaries begun) ≤ total begun = omega (arith, column_length begun.cluster begun.place.part rules) in (
         record {
           coded = All-nil (HasCode policy);
           below = All-filter (shows_none stamp heard.lists) (λ (target : Target). target.index < total begun) targets (targets-below 0 (total begun) (primaries begun) few);
@@ -215,5 +212,5 @@ module _ (begun : Begun) (valid : IsBegun begun) where
       subst IsFit (sym is.4)
       (settled-fit is.2 _ (subst IsFit (sym is.3.after_is) (hears-fit is.0.stage is.3.errand answer is.3.stage is.0.due is.3.more is.3.hears before)))
 
-pub fits : (begun : Begun) → IsBegun begun → (past : List Step) (state : State) → IsState begun past state → All (Fits state.stage) state.due
-fits begun valid past state is = (is-fit begun valid past state is).1
+pub fits : (begun : Begun) → KeepsRules begun.cluster → (past : List Step) (state : State) → IsState begun past state → All (Fits state.stage) state.due
+fits begun rules past state is = (is-fit begun rules past state is).1

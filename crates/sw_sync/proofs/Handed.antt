@@ -2,7 +2,7 @@
 use Rattle.std.proofs.Common.{◌≡◌, inl, inr, ℕ, true, Contains, List, [], ◌∷◌, Some, refl, sym, ap, subst, ◌∙◌}
 use Rattle.std.proofs.lemmas.List.Elements.{All-contains}
 use Rattle.sw_message.specs.Floors.{durable_at}
-use Rattle.sw_message.specs.Transcript.{Hand, IsRun, Step, given}
+use Rattle.sw_message.specs.Transcript.{Hand, IsFirst, IsRun, Step, given}
 use Rattle.sw_message.specs.declared.message.Msg.{Msg}
 use Rattle.sw_message.specs.declared.message.Msg.TheVariants as message
 use Rattle.sw_message.specs.declared.sent.Sent.{Sent}
@@ -11,7 +11,7 @@ use Rattle.sw_gather.specs.Choices.{firsts}
 use Rattle.sw_gather.proofs.Sources.{indices_of}
 use Rattle.sw_sync.specs.Answers.{IsOwnFloor, IsSource}
 use Rattle.sw_sync.specs.Parts.{Burial, Heard, Repair}
-use Rattle.sw_sync.specs.Sends.{IsFirst, MayCommit, MayFetch, MaySend, MayStore}
+use Rattle.sw_sync.specs.Sends.{MayCommit, MayFetch, MaySend, MayStore}
 use Rattle.sw_sync.specs.Standing.{ends}
 use Rattle.sw_sync.specs.Sync.{Begun, IsBegun, IsMessage, IsNext, IsRebuilt, errand_of, primaries}
 use Rattle.sw_sync.specs.declared.errand.Errand.{Errand}

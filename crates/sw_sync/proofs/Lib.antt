@@ -25,9 +25,11 @@ pub mod Repaired
 pub mod Repairing
 pub mod Replies
 pub mod Results
+pub mod Sameness
 pub mod Settled
 pub mod Shows
 pub mod Surveys
 pub mod Targets
+pub mod Together
 pub mod Warrants
 pub mod Writes

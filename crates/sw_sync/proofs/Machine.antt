@@ -15,7 +15,7 @@ use Rattle.sw_sync.proofs.Warrants as warrants
 
 -- what is due fits its stage
 pub fits : (begun : Begun) → IsBegun begun → (past : List Step) (state : State) → IsState begun past state → All (Fits state.stage) state.due
-fits begun valid past state is = fitting.fits begun valid past state is
+fits begun valid past state is = fitting.fits begun valid.rules past state is
 
 -- once it is over, nothing is open and nothing is due
 pub over_settled : (begun : Begun) → IsBegun begun → (past : List Step) (state : State) → IsState begun past state → ends state.stage ≡ true → (is_waiting past ≡ false) × (state.due ≡ [])

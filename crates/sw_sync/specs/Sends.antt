@@ -7,11 +7,10 @@ use Rattle.sw_archive.specs.Archive.{ArchiveModel}
 use Rattle.sw_archive.specs.Assemble.{IsFurther}
 use Rattle.sw_message.specs.Floors.{durable_at, floors_in, tombstone_floor}
 use Rattle.sw_message.specs.Message.{IsMember, is_primary}
-use Rattle.sw_message.specs.Transcript.{Step, given}
+use Rattle.sw_message.specs.Transcript.{Step}
 use Rattle.sw_message.specs.declared.message.Msg.{Msg}
 use Rattle.sw_message.specs.declared.message.Msg.TheVariants as message
 use Rattle.sw_message.specs.declared.reply.Reply.TheVariants as reply
-use Rattle.sw_message.specs.declared.sent.Sent.{Sent}
 use Rattle.sw_message.specs.declared.target.Target.{Target}
 use Rattle.sw_sync.specs.Sync.{Begun}
 use Rattle.sw_sync.specs.Answers.{AllAnswered, AreBrought, AreIndices, HandoffsAnswered, IsOwnFloor, IsSource, ListsNone, ListsPlain, WasListed, WasTold}
@@ -76,12 +75,3 @@ MaySend begun past device (message.Fetch place stamp index) = (place ≡ begun.p
 MaySend begun past device (message.PutFrag place stamp index bytes) = (place ≡ begun.place) × MayStore begun past (record { index = index; device = device }) stamp bytes
 MaySend begun past device (message.Commit place stamp index) = (place ≡ begun.place) × MayCommit begun past (record { index = index; device = device }) stamp
 MaySend begun past device other = ⊥
-
--- messages that ask the same, whatever bytes go with them
-abbrev pub AreAlike : Msg → Msg → Type 0
-AreAlike (message.PutFrag place stamp index bytes) (message.PutFrag other at of more) = (place ≡ other) × (stamp ≡ at) × (index ≡ of)
-AreAlike one other = one ≡ other
-
--- a device was not sent such a message before
-abbrev pub IsFirst : List Step → Sent → Type 0
-IsFirst past sent = (other : Sent) → Contains (given past) other → other.device ≡ sent.device → AreAlike other.msg sent.msg → ⊥

@@ -1,17 +1,24 @@
-//! What syncs do and why they end as they do, as the contract of a function without arguments.
+//! Laws of syncs, each the contract of a function without arguments.
 
 ghost use Rattle.std.specs.Prelude.{◌≡◌, ℕ, List};
 ghost use Rattle.sw_hashdir.specs.declared.floor.Floor.{Floor as AFloor};
-ghost use Rattle.sw_message.specs.Transcript.{Hand, IsRun, Step};
+ghost use Rattle.sw_ring.specs.Cluster.{KeepsRules};
+ghost use Rattle.sw_message.specs.Transcript.{Hand, IsFirst, IsRun, Next, Step};
 ghost use Rattle.sw_message.specs.declared.miss.Miss.{Miss as AMiss};
 ghost use Rattle.sw_message.specs.declared.sent.Sent.{Sent as ASent};
 ghost use Rattle.sw_sync.specs.Answers.{AllAnswered};
 ghost use Rattle.sw_sync.specs.Causes.{IsDone, IsNewer, IsTooFew, IsUnanswered};
-ghost use Rattle.sw_sync.specs.Sends.{IsFirst, MaySend};
+ghost use Rattle.sw_sync.specs.Sends.{MaySend};
 ghost use Rattle.sw_sync.specs.Sync.{Begun, IsBegun, IsEnd, IsNext};
 ghost use Rattle.sw_sync.specs.declared.sync_end.Failure.{Failure as AFailure};
 ghost use Rattle.sw_sync.specs.declared.sync_end.SyncEnd.{SyncEnd as ASyncEnd};
 ghost use Rattle.sw_sync.specs.declared.sync_end.SyncEnd.TheVariants.{Done, Newer, TooFew, Unanswered};
+
+/// After a transcript of a sync one thing comes next, and it has one end at most.
+pub fn machine_law()
+    ensures one_next { (begun : Begun) (past : List Step) (one other : Next) → KeepsRules begun.cluster → IsNext begun past one → IsNext begun past other → one ≡ other }
+    ensures one_end { (begun : Begun) (past : List Step) (one other : ASyncEnd) → IsEnd begun past one → IsEnd begun past other → one ≡ other }
+{}
 
 /// Each end of a sync has its cause in what was answered, once each device of the cluster was asked. It hands out nothing twice. A
 /// tombstone goes only to primaries that listed a smaller floor or none; archives are fetched only for primaries that lack theirs, are

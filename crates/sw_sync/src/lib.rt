@@ -18,7 +18,7 @@ mod stepping;
 mod sync;
 mod sync_end;
 
-pub use crate::laws::sync_law;
+pub use crate::laws::{machine_law, sync_law};
 pub use crate::sync::SyncJob;
 pub use crate::sync_end::{Failure, SyncEnd};
 

@@ -1,7 +1,9 @@
 use Rattle.sw_recon.specs.declared.revert_end.RevertEnd.TheVariants.{Done, Unanswered}
 use Rattle.sw_recon.specs.declared.status.Status.TheVariants.{Ends}
+use Rattle.sw_recon.proofs.Firsts.{is-first}
 use Rattle.sw_recon.proofs.Handed.{removes, stores}
 use Rattle.sw_recon.proofs.Known.{known}
+use Rattle.sw_recon.proofs.Sending.{may-send}
 use Rattle.sw_recon.proofs.laws.revert_law.Goals as goal
 
 pub returns-clause-done : goal.returns-clause-done
@@ -15,3 +17,9 @@ returns-clause-stores c = λ begun past sent place stamp index bytes valid run n
 
 pub returns-clause-removes : goal.returns-clause-removes
 returns-clause-removes c = λ begun past sent place entry valid run next is. removes begun past sent place entry is run next
+
+pub returns-clause-sends : goal.returns-clause-sends
+returns-clause-sends c = λ begun past sent valid run next. may-send begun past sent run next
+
+pub returns-clause-first : goal.returns-clause-first
+returns-clause-first c = λ begun past sent listing valid run own next. is-first begun valid past run listing own sent next
