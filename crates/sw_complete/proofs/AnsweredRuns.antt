@@ -23,7 +23,7 @@ use Rattle.sw_core.specs.World.{Operating, World, numbered}
 use Rattle.sw_core.proofs.Happening.{run-sound}
 use Rattle.sw_core.proofs.Numbered.{numbered-contains}
 use Rattle.sw_events.proofs.Leads.{run-more}
-use Rattle.sw_decided.specs.Decided.{KeepsStamps}
+use Rattle.sw_owed.specs.Decided.{KeepsStamps}
 use Rattle.sw_decided.proofs.Runs.{run_keeps}
 use Rattle.sw_alone.specs.Alone.{Delivers, GivesUp, IsOf, IsOwnEvent, LeadsAlone}
 use Rattle.sw_complete.specs.Complete.{IsDelivery}

@@ -18,8 +18,8 @@ use Rattle.sw_claim.proofs.Floors.{floor_name}
 use Rattle.sw_scene.specs.Disks.{Disk, IsFoundOn, IsSide, Sure}
 use Rattle.sw_scene.specs.Scene.{Scene, StartedDelete, StartedPut, disk_of, known_to}
 use Rattle.sw_scene.specs.Sound.{IsDrawn, IsSoundScene}
-use Rattle.sw_decided.specs.Decided.{Draw, IsNameBy, KeepsStamps, WasDeleted, WasPut}
-use Rattle.sw_decided.proofs.Draws.{delete_draw, delete_drawn, put_draw, put_drawn}
+use Rattle.sw_owed.specs.Decided.{Draw, IsNameBy, KeepsStamps, WasDeleted, WasPut}
+use Rattle.sw_owed.proofs.Draws.{delete_draw, delete_drawn, put_draw, put_drawn}
 
 -- ---- names
 

@@ -28,12 +28,12 @@ use Rattle.sw_objsrv.specs.Handling.{IsStamped}
 use Rattle.sw_scene.specs.Devices.{IsDeviceStep}
 use Rattle.sw_scene.specs.Disks.{Disk, IsFoundOn, IsSide, Sure}
 use Rattle.sw_scene.specs.Scene.{Scene, disk_of, known_to}
-use Rattle.sw_promise.proofs.Kept.{DiskBears, handled_bears, sure_bears}
+use Rattle.sw_owed.proofs.Kept.{DiskBears, handled_bears, sure_bears}
 use Rattle.sw_core.specs.Event.{stamp_in}
 use Rattle.sw_core.specs.Operating.{Begun, IsNext, Put as PutBegun, own_of}
 use Rattle.sw_core.specs.Sound.{IsSoundWorld, Stands}
 use Rattle.sw_core.specs.World.{World}
-use Rattle.sw_decided.specs.Decided.{KeepsStamps}
+use Rattle.sw_owed.specs.Decided.{KeepsStamps}
 use Rattle.sw_homes.proofs.Devices.{one_index}
 use Rattle.sw_complete.specs.Complete.{HaveRoom}
 use Rattle.sw_complete.proofs.AnsweredRuns.{HandlesWell}

@@ -1,13 +1,5 @@
-pub mod Dates
-pub mod Draws
-pub mod Grown
-pub mod Held
 pub mod Moves
-pub mod Named
 pub mod News
-pub mod Requests
-pub mod Rows
 pub mod Runs
 pub mod Starts
-pub mod Steps
 pub mod Still

@@ -15,11 +15,11 @@ use Rattle.sw_scene.specs.Moves.{Crashes, CrashesMounting, Fails, Handles, Resta
 use Rattle.sw_scene.specs.Scene.{Request, Scene, StartedDelete, disk_of, set_device}
 use Rattle.sw_scene.specs.Sound.{IsSoundScene}
 use Rattle.sw_promise.proofs.News.{AreMarksStamped}
-use Rattle.sw_decided.specs.Decided.{AreNamesBy, IsMessageBy}
-use Rattle.sw_decided.proofs.Grown.{message_still, same_scene}
-use Rattle.sw_decided.proofs.Held.{failed_names, found_names, held_names, left_names, mounted_names, sure_names}
+use Rattle.sw_owed.specs.Decided.{AreNamesBy, IsMessageBy}
+use Rattle.sw_owed.proofs.Grown.{message_still, same_scene}
+use Rattle.sw_owed.proofs.Held.{failed_names, found_names, held_names, left_names, mounted_names, sure_names}
 use Rattle.sw_decided.proofs.News.{IsKeeping}
-use Rattle.sw_decided.proofs.Steps.{stepped}
+use Rattle.sw_owed.proofs.Steps.{stepped}
 use Rattle.sw_decided.proofs.Still.{lost_keeping, replies_keeping, set_keeping}
 
 -- a message that buries only what was deleted has a stamp that there is

@@ -4,10 +4,10 @@ use Rattle.sw_hashpath.specs.Place.{PlaceModel}
 use Rattle.sw_message.specs.Message.{place_in}
 use Rattle.sw_message.specs.declared.sent.Sent.{Sent}
 use Rattle.sw_scene.specs.Scene.{Request, Scene}
-use Rattle.sw_promise.specs.Promise.{Made, OnDisk, WasMade}
+use Rattle.sw_owed.specs.Promise.{Made, OnDisk, WasMade}
 use Rattle.sw_promise.proofs.News.{AreMarksStamped}
-use Rattle.sw_decided.specs.Decided.{AreNamesBy, IsMessageBy, IsReplyBy, KeepsStamps, Rise}
-use Rattle.sw_decided.proofs.Grown.{GoesOn, message_still, names_still, reply_still}
+use Rattle.sw_owed.specs.Decided.{AreNamesBy, IsMessageBy, IsReplyBy, KeepsStamps, Rise}
+use Rattle.sw_owed.proofs.Grown.{GoesOn, message_still, names_still, reply_still}
 
 -- what every scene of a run keeps: that of stamps, and that those of deletes are some that there are
 pub record IsKeeping (scene : Scene) : Type 0 where

@@ -17,8 +17,8 @@ use Rattle.sw_events.specs.SceneMove.{Asked, AtDevice, Crashed, CrashedMounting,
 use Rattle.sw_events.proofs.Carried.{run-carried}
 use Rattle.sw_events.proofs.SceneMoves.{scene-moves}
 use Rattle.sw_promise.proofs.Warrants.{marks_stamped}
-use Rattle.sw_decided.specs.Decided.{KeepsStamps}
-use Rattle.sw_decided.proofs.Draws.{books_rise, marks_rise, still_rise}
+use Rattle.sw_owed.specs.Decided.{KeepsStamps}
+use Rattle.sw_owed.proofs.Draws.{books_rise, marks_rise, still_rise}
 use Rattle.sw_decided.proofs.Moves.{crashes_keeping, crashes_mounting_keeping, fails_keeping, handles_keeping, loses_keeping, restarts_keeping, stopped_keeping}
 use Rattle.sw_decided.proofs.News.{IsKeeping}
 use Rattle.sw_decided.proofs.Starts.{sends_keeping}

@@ -8,10 +8,10 @@ use Rattle.sw_message.specs.declared.reply.Reply.{Reply}
 use Rattle.sw_message.specs.declared.sent.Sent.{Sent}
 use Rattle.sw_scene.specs.Moves.{replies, ticked}
 use Rattle.sw_scene.specs.Scene.{Answer, DeviceState, Loss, Scene, set_device, with_device}
-use Rattle.sw_promise.specs.Promise.{Made, WasMade}
-use Rattle.sw_decided.specs.Decided.{IsReplyBy}
-use Rattle.sw_decided.proofs.Draws.{still_rise}
-use Rattle.sw_decided.proofs.Held.{DiskNames}
+use Rattle.sw_owed.specs.Promise.{Made, WasMade}
+use Rattle.sw_owed.specs.Decided.{IsReplyBy}
+use Rattle.sw_owed.proofs.Draws.{still_rise}
+use Rattle.sw_owed.proofs.Held.{DiskNames}
 use Rattle.sw_decided.proofs.News.{IsKeeping, keeping_on}
 
 module _ (scene : Scene) (keeping : IsKeeping scene) where

@@ -4,7 +4,7 @@ ghost use Rattle.std.specs.Prelude.{List};
 ghost use Rattle.sw_ring.specs.Cluster.{ClusterModel};
 ghost use Rattle.sw_core.specs.Event.{Event, IsRun};
 ghost use Rattle.sw_core.specs.World.{World};
-ghost use Rattle.sw_decided.specs.Decided.{KeepsStamps};
+ghost use Rattle.sw_owed.specs.Decided.{KeepsStamps};
 
 /// Whatever happens to a cluster, one basic event after the other: what devices hold, what messages ask to store, to make durable or to
 /// bury, and the listings and floors that replies show are of puts and deletes that were started before; what is durable was decided

@@ -9,13 +9,13 @@ use Rattle.sw_message.specs.declared.target.Target.{Target}
 use Rattle.sw_claim.specs.Claim.{ADurableEntry, ATombstone, AnEntry, Claim, IsOfIndex, What}
 use Rattle.sw_scene.specs.Scene.{IsLostSince, Scene, StartedPut}
 use Rattle.sw_scene.specs.Sound.{IsSoundScene}
-use Rattle.sw_promise.specs.Promise.{BearsAt, Borne, HandedOn, IsClaimed, IsKept, KeepsPromises, Lost, Made, WasMade, WasShown}
-use Rattle.sw_promise.proofs.Claimed.{change_claimed}
-use Rattle.sw_decided.specs.Decided.{IsMessageBy, KeepsStamps}
-use Rattle.sw_decided.proofs.Dates.{asked_by, from_put, put_from}
-use Rattle.sw_duties.specs.Duties.{Here, IsDutyKept, LostHere, LostThere, Own, There, place_of_put}
-use Rattle.sw_duties.proofs.Losses.{lost_before}
-use Rattle.sw_duties.proofs.Holding.{held}
+use Rattle.sw_owed.specs.Promise.{BearsAt, Borne, HandedOn, IsClaimed, IsKept, KeepsPromises, Lost, Made, WasMade, WasShown}
+use Rattle.sw_owed.proofs.Claimed.{change_claimed}
+use Rattle.sw_owed.specs.Decided.{IsMessageBy, KeepsStamps}
+use Rattle.sw_owed.proofs.Dates.{asked_by, from_put, put_from}
+use Rattle.sw_owed.specs.Duties.{Here, IsDutyKept, LostHere, LostThere, Own, There, place_of_put}
+use Rattle.sw_owed.proofs.Losses.{lost_before}
+use Rattle.sw_owed.proofs.Holding.{held}
 use Rattle.sw_duties.proofs.Shown.{shown_kept}
 
 -- what is claimed is of one index

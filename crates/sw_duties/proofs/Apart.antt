@@ -26,7 +26,7 @@ use Rattle.sw_core.specs.Event.{Event, IsRun}
 use Rattle.sw_core.specs.Operating.{Begun, IsBegun, IsNext, Put}
 use Rattle.sw_core.specs.World.{Operating, World, numbered}
 use Rattle.sw_core.proofs.Happening.{run-sound}
-use Rattle.sw_decided.specs.Decided.{AreApart}
+use Rattle.sw_owed.specs.Decided.{AreApart}
 use Rattle.sw_duties.specs.Counted.{CountsApart}
 
 -- commits go out for no more than what is stored

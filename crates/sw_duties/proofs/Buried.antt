@@ -6,13 +6,13 @@ use Rattle.sw_message.specs.declared.reply.Reply.TheVariants as reply
 use Rattle.sw_claim.specs.Claim.{ATombstone, Claim}
 use Rattle.sw_scene.specs.Scene.{IsLostSince, Scene, StartedDelete}
 use Rattle.sw_scene.specs.Sound.{IsSoundScene}
-use Rattle.sw_promise.specs.Promise.{Borne, HandedOn, IsKept, KeepsPromises, Lost, Made, OnDisk, WasMade}
-use Rattle.sw_promise.proofs.Claimed.{change_claimed}
-use Rattle.sw_decided.specs.Decided.{IsMessageBy, KeepsStamps}
-use Rattle.sw_decided.proofs.Dates.{asked_by, delete_from, from_delete}
-use Rattle.sw_duties.specs.Duties.{HasFloorOf, place_of_delete}
-use Rattle.sw_duties.proofs.Losses.{lost_before}
-use Rattle.sw_duties.proofs.Holding.{buried}
+use Rattle.sw_owed.specs.Promise.{Borne, HandedOn, IsKept, KeepsPromises, Lost, Made, OnDisk, WasMade}
+use Rattle.sw_owed.proofs.Claimed.{change_claimed}
+use Rattle.sw_owed.specs.Decided.{IsMessageBy, KeepsStamps}
+use Rattle.sw_owed.proofs.Dates.{asked_by, delete_from, from_delete}
+use Rattle.sw_owed.specs.Duties.{HasFloorOf, place_of_delete}
+use Rattle.sw_owed.proofs.Losses.{lost_before}
+use Rattle.sw_owed.proofs.Holding.{buried}
 
 module _ (scene : Scene) (sound : IsSoundScene scene) (promises : KeepsPromises scene) (stamps : KeepsStamps scene) (delete : StartedDelete) (has : Contains scene.marks delete) (made : Made) (was_made : WasMade scene made)
     (same_msg : made.msg ≡ message.Delete (place_of_delete scene delete) delete.marked.stamp) where

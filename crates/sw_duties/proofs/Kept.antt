@@ -6,11 +6,11 @@ use Rattle.sw_scene.specs.Sound.{IsSoundScene}
 use Rattle.sw_core.specs.Event.{Event, IsRun}
 use Rattle.sw_core.specs.World.{World}
 use Rattle.sw_core.proofs.Happening.{run-sound}
-use Rattle.sw_promise.specs.Promise.{KeepsPromises}
+use Rattle.sw_owed.specs.Promise.{KeepsPromises}
 use Rattle.sw_promise.proofs.Runs.{run_keeps as run_promises}
-use Rattle.sw_decided.specs.Decided.{KeepsStamps}
+use Rattle.sw_owed.specs.Decided.{KeepsStamps}
 use Rattle.sw_decided.proofs.Runs.{run_keeps as run_stamps}
-use Rattle.sw_duties.specs.Duties.{KeepsDuties}
+use Rattle.sw_owed.specs.Duties.{KeepsDuties}
 use Rattle.sw_duties.proofs.Answered.{committed_kept, stored_kept}
 use Rattle.sw_duties.proofs.Buried.{buried_kept}
 use Rattle.sw_duties.proofs.Shown.{shown_kept}

@@ -6,13 +6,13 @@ use Rattle.sw_message.specs.Warrant.{IsPrimaryOf, ShowsAbove, ShowsDurable}
 use Rattle.sw_claim.specs.Claim.{ADurableEntry, Claim}
 use Rattle.sw_scene.specs.Scene.{IsLostSince, Scene, StartedPut}
 use Rattle.sw_scene.specs.Sound.{IsSoundScene}
-use Rattle.sw_promise.specs.Promise.{Borne, HandedOn, IsKept, KeepsPromises, Lost, Made, OnDisk, WasMade}
-use Rattle.sw_promise.proofs.Primaries.{at_primary}
-use Rattle.sw_decided.specs.Decided.{KeepsStamps}
-use Rattle.sw_decided.proofs.Dates.{dated, put_from}
-use Rattle.sw_duties.specs.Duties.{HoldsOrStands, place_of_put}
-use Rattle.sw_duties.proofs.Losses.{lost_before}
-use Rattle.sw_duties.proofs.Holding.{held}
+use Rattle.sw_owed.specs.Promise.{Borne, HandedOn, IsKept, KeepsPromises, Lost, Made, OnDisk, WasMade}
+use Rattle.sw_owed.proofs.Primaries.{at_primary}
+use Rattle.sw_owed.specs.Decided.{KeepsStamps}
+use Rattle.sw_owed.proofs.Dates.{dated, put_from}
+use Rattle.sw_owed.specs.Duties.{HoldsOrStands, place_of_put}
+use Rattle.sw_owed.proofs.Losses.{lost_before}
+use Rattle.sw_owed.proofs.Holding.{held}
 
 module _ (scene : Scene) (sound : IsSoundScene scene) (promises : KeepsPromises scene) (stamps : KeepsStamps scene) (put : StartedPut) (has : Contains scene.book put) (index : ℕ) (made : Made)
     (primary : IsPrimaryOf scene.cluster (place_of_put scene put) index made.device) where

@@ -4,7 +4,7 @@ use Rattle.sw_quorum.specs.Answers.{done}
 use Rattle.sw_put.specs.Put as puts
 use Rattle.sw_core.specs.Operating.{Put}
 use Rattle.sw_core.specs.World.{Operating, World, numbered}
-use Rattle.sw_decided.specs.Decided.{AreApart}
+use Rattle.sw_owed.specs.Decided.{AreApart}
 
 pub record CountsApart (world : World) : Type 0 where
   pub stored : (number : ℕ) (operation : Operating) (begun : puts.Begun) → numbered world.operations number ≡ Some operation → operation.begun ≡ Put begun

@@ -5,7 +5,7 @@ ghost use Rattle.sw_ring.specs.Cluster.{ClusterModel};
 ghost use Rattle.sw_core.specs.Event.{Event, IsRun};
 ghost use Rattle.sw_core.specs.World.{World};
 ghost use Rattle.sw_duties.specs.Counted.{CountsApart};
-ghost use Rattle.sw_duties.specs.Duties.{KeepsDuties};
+ghost use Rattle.sw_owed.specs.Duties.{KeepsDuties};
 
 /// Whatever happens to a cluster, one basic event after the other: a fragment that its index's primary or a handoff stored or made
 /// durable is held there, or the primary holds it durable or has a floor above it, or one of these disks was lost since the put began;

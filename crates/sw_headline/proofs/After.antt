@@ -16,15 +16,15 @@ use Rattle.sw_core.specs.Sound.{IsSoundWorld, Stands}
 use Rattle.sw_core.specs.World.{Operating, World}
 use Rattle.sw_core.proofs.Happening.{run-sound}
 use Rattle.sw_events.proofs.Leads.{leads-append}
-use Rattle.sw_decided.specs.Decided.{KeepsStamps}
-use Rattle.sw_promise.specs.Promise.{KeepsPromises, WasMade}
+use Rattle.sw_owed.specs.Decided.{KeepsStamps}
+use Rattle.sw_owed.specs.Promise.{KeepsPromises, WasMade}
 use Rattle.sw_promise.proofs.Runs.{run_keeps}
 use Rattle.sw_headline.specs.Headline.{EndsLater, IsOperation, LeadsOn}
 use Rattle.sw_headline.proofs.Gets.{IsGot, is-got, since-start}
 use Rattle.sw_headline.proofs.Growing.{leads-on}
 use Rattle.sw_headline.proofs.Heard.{IsHearing, is-hearing}
 use Rattle.sw_decided.proofs.Runs.{run_keeps as stamps_hold}
-use Rattle.sw_headline.proofs.Handed.{in_whole}
+use Rattle.sw_rounds.proofs.Handed.{in_whole}
 
 module _ (cluster : ClusterModel) (old new : World) (leads : LeadsOn cluster old new) where
   -- the events up to the later world

@@ -11,11 +11,12 @@ use Rattle.sw_core.specs.Operating.{IsGetOf}
 use Rattle.sw_core.specs.Sound.{Stands}
 use Rattle.sw_core.specs.World.{Operating, World, numbered}
 use Rattle.sw_core.proofs.Happening.{run-sound}
-use Rattle.sw_timed.specs.Timed.{IsTimed, IsTimely}
+use Rattle.sw_rounds.specs.Timed.{IsTimed}
+use Rattle.sw_timed.specs.Timed.{IsTimely}
 use Rattle.sw_timed.proofs.Runs.{run-timely as times_hold}
 use Rattle.sw_alone.proofs.Gets.{get_run}
-use Rattle.sw_headline.proofs.Handed.{gave-at}
-use Rattle.sw_headline.proofs.Timing.{gave-made}
+use Rattle.sw_rounds.proofs.Handed.{gave-at}
+use Rattle.sw_rounds.proofs.Timing.{gave-made}
 
 -- an operation of a number is a get of a sound scene, whose messages were made in the order of its transcript
 pub record IsGot (scene : Scene) (number : ℕ) (operation : Operating) (begun : gets.Begun) : Type 0 where

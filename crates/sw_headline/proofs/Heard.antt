@@ -18,17 +18,18 @@ use Rattle.sw_get.specs.Meaning.{Lists}
 use Rattle.sw_get.proofs.Turns.{now}
 use Rattle.sw_scene.specs.Scene.{Mail}
 use Rattle.sw_core.specs.World.{Operating, World}
-use Rattle.sw_timed.specs.Timed.{IsTimed}
+use Rattle.sw_rounds.specs.Timed.{IsTimed}
 use Rattle.sw_asked.specs.Asked.{IsSentAfter}
 use Rattle.sw_homes.specs.Homes.{AreHeard, IsHeardBefore, IsMadeOf, Shown}
-use Rattle.sw_headline.specs.Headline.{AreOut, HasMissed}
-use Rattle.sw_headline.proofs.Counting.{Collected, collected}
+use Rattle.sw_rounds.specs.Missed.{HasMissed}
+use Rattle.sw_headline.specs.Headline.{AreOut}
+use Rattle.sw_rounds.proofs.Counting.{Collected, collected}
 use Rattle.sw_headline.proofs.Gets.{IsGot}
-use Rattle.sw_headline.proofs.LastRound.{HasListed, has-listed, listed-by}
+use Rattle.sw_rounds.proofs.LastRound.{HasListed, has-listed, listed-by}
 use Rattle.sw_asked.proofs.Handoffs.{handoffs_first}
-use Rattle.sw_headline.proofs.Handed.{gave-at, in_whole}
-use Rattle.sw_headline.proofs.Rounds.{heard-sent}
-use Rattle.sw_headline.proofs.Timing.{WasMadeBy, told-made, timed-before}
+use Rattle.sw_rounds.proofs.Handed.{gave-at, in_whole}
+use Rattle.sw_rounds.proofs.Rounds.{heard-sent}
+use Rattle.sw_rounds.proofs.Timing.{WasMadeBy, told-made, timed-before}
 
 module _ (world : World) (number : ℕ) (operation : Operating) (begun : Begun) (got : IsGot world.scene number operation begun) (turns : List Turn) where
   abbrev past : List Step

@@ -25,24 +25,25 @@ use Rattle.sw_scene.specs.Scene.{StartedPut}
 use Rattle.sw_core.specs.Event.{Event, IsRun}
 use Rattle.sw_core.specs.World.{Operating, World}
 use Rattle.sw_core.proofs.Happening.{run-sound}
-use Rattle.sw_promise.specs.Promise.{KeepsPromises}
-use Rattle.sw_decided.specs.Decided.{KeepsStamps, WasDecided}
-use Rattle.sw_timed.specs.Timed.{IsTimed}
+use Rattle.sw_owed.specs.Promise.{KeepsPromises}
+use Rattle.sw_owed.specs.Decided.{KeepsStamps, WasDecided}
+use Rattle.sw_rounds.specs.Timed.{IsTimed}
 use Rattle.sw_asked.specs.Asked.{IsSentAfter}
 use Rattle.sw_homes.specs.Homes.{IsListed, Shown}
 use Rattle.sw_headline.specs.Headline.{AreOut}
-use Rattle.sw_headline.proofs.Counting.{at_most}
+use Rattle.sw_rounds.proofs.Counting.{at_most}
 use Rattle.sw_headline.proofs.Gets.{IsGot}
 use Rattle.sw_headline.proofs.Growing.{run-below}
 use Rattle.sw_headline.proofs.Heard.{IsHearing, is-hearing}
-use Rattle.sw_headline.proofs.LastRound.{in_heard}
+use Rattle.sw_rounds.proofs.LastRound.{in_heard}
 use Rattle.sw_asked.proofs.Showings.{floors_first}
 use Rattle.sw_homes.proofs.DecidedHeard.{decided as hears_decided}
-use Rattle.sw_headline.proofs.Handed.{in_whole, told-here}
-use Rattle.sw_headline.proofs.Openings.{IsSentFirst, first-sent}
-use Rattle.sw_decided.proofs.Grown.{decided_still, same_scene}
-use Rattle.sw_headline.proofs.Stamps.{durable_entry, has_listing, listing_by}
-use Rattle.sw_headline.proofs.Timing.{timed-before, told-made}
+use Rattle.sw_rounds.proofs.Handed.{in_whole, told-here}
+use Rattle.sw_rounds.proofs.Openings.{IsSentFirst, first-sent}
+use Rattle.sw_owed.proofs.Grown.{decided_still, same_scene}
+use Rattle.sw_rounds.proofs.Listed.{durable_entry, has_listing}
+use Rattle.sw_headline.proofs.Stamps.{listing_by}
+use Rattle.sw_rounds.proofs.Timing.{timed-before, told-made}
 
 module _ (cluster : ClusterModel) (events : List Event) (world : World) (run : IsRun cluster events world) (promises : KeepsPromises world.scene) (stamps : KeepsStamps world.scene) (number : ℕ) (operation : Operating) (begun : Begun)
     (got : IsGot world.scene number operation begun) (is_place : IsPlace world.scene.cluster.part_power (place_of begun)) (turns : List Turn) (are : AreTurns begun operation.past turns) (answered : AllAnswered begun turns)

@@ -18,12 +18,13 @@ use Rattle.sw_put.proofs.Transcripts.{ended}
 use Rattle.sw_get.specs.Causes.{LastRound}
 use Rattle.sw_get.specs.declared.end.GetEnd.{GetEnd}
 use Rattle.sw_core.specs.Operating.{Begun, IsBegun, IsNext, Put, cluster_of}
-use Rattle.sw_decided.specs.Decided.{AreApart}
+use Rattle.sw_owed.specs.Decided.{AreApart}
 use Rattle.sw_homes.specs.Homes.{WasCommitted}
 use Rattle.sw_headline.specs.Headline.{IsAfterPut, NeverOlder}
 use Rattle.sw_headline.proofs.After.{all_events, got, hears, is_place, new_sound, old_stands, place, promises, same_cluster, same_place, stamps, told-before, whole_run}
 use Rattle.sw_homes.proofs.Committed.{committed as hears_committed}
-use Rattle.sw_headline.proofs.Reached.{IsReached, is-reached, not-older}
+use Rattle.sw_rounds.proofs.Reached.{IsReached}
+use Rattle.sw_headline.proofs.Reached.{is-reached, not-older}
 
 module _ (cluster : ClusterModel) (stamp commits : ℕ) (out : List ℕ) (end : GetEnd) (is : IsAfterPut cluster stamp commits out end) where
   abbrev own_place : PlaceModel

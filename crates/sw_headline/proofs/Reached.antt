@@ -1,14 +1,12 @@
 -- A get in whose last round a floor of a stamp or above it is listed tells of nothing older than that stamp.
-use Rattle.std.proofs.Common.{◌≡◌, inl, ⊎_elim, ℕ, ◌<◌, ◌≤◌, Contains, List, Some, ap, subst, arith}
-use Rattle.std.proofs.lemmas.List.Elements.{Contains-append_right}
+use Rattle.std.proofs.Common.{◌≡◌, inl, ⊎_elim, ℕ, ◌<◌, Contains, List, Some, ap, subst, arith}
 use Rattle.sw_hashdir.specs.Listing.{ListingModel}
 use Rattle.sw_hashdir.specs.declared.floor.Floor.{Floor}
 use Rattle.sw_diskfile.proofs.Lists.{Contains-none}
 use Rattle.sw_ring.specs.Cluster.{ClusterModel}
-use Rattle.sw_message.specs.Floors.{durable_at, floors_in}
-use Rattle.sw_message.specs.Transcript.{Step}
+use Rattle.sw_message.specs.Floors.{floors_in}
 use Rattle.sw_gather.proofs.Lists.{in_flat}
-use Rattle.sw_get.specs.Causes.{HasTarget, IsShown, LastRound, floors_before, floors_listed}
+use Rattle.sw_get.specs.Causes.{LastRound}
 use Rattle.sw_get.specs.Get as gets
 use Rattle.sw_get.specs.declared.end.GetEnd.{GetEnd}
 use Rattle.sw_get.specs.declared.end.GetEnd.TheVariants.{Absent, Buried, Found, Overtaken, TooFew, Unanswered}
@@ -18,18 +16,10 @@ use Rattle.sw_core.specs.Operating.{IsGetOf}
 use Rattle.sw_core.specs.World.{Operating, World, numbered}
 use Rattle.sw_core.proofs.Runs.{found}
 use Rattle.sw_homes.specs.Homes.{IsFloorHeard, Reaches}
-use Rattle.sw_headline.specs.Ends.{IsNotOlder}
+use Rattle.sw_rounds.specs.Ends.{IsNotOlder}
+use Rattle.sw_rounds.proofs.Reached.{IsReached, target-reached}
 use Rattle.sw_headline.proofs.Gets.{IsGot}
 use Rattle.sw_headline.proofs.Heard.{IsHearing}
-
--- in the last round a floor was listed whose stamp is not less than this one
-pub record IsReached (begun : gets.Begun) (past : List Step) (turns : List gets.Turn) (stamp : ℕ) : Type 0 where
-  pub listing : ListingModel
-  pub floor : Floor
-  pub shown : IsShown past listing
-  pub there : Contains (floors_in listing) floor
-  pub among : Contains (floors_listed begun turns) floor
-  pub high : stamp ≤ floor.stamp
 
 -- by one that reaches another of that stamp
 pub is-reached : (world : World) (number : ℕ) (operation : Operating) (begun : gets.Begun) (got_it : IsGot world.scene number operation begun) (turns : List gets.Turn) (start since : ℕ) (out : List ℕ)
@@ -47,13 +37,6 @@ is-reached world number operation begun got_it turns start since out hearing oth
           (λ above. ⊎_elim (λ less. omega (arith, less)) (λ level. omega (arith, level.0)) above)
           reaches;
     }
-
--- the target of the round is not below it
-pub target-reached : (begun : gets.Begun) (past : List Step) (turns : List gets.Turn) (stamp other : ℕ) → IsReached begun past turns stamp → HasTarget begun turns (durable_at other) → stamp ≤ other
-target-reached begun past turns stamp other reached target =
-    let upto : other < reached.floor.stamp → ⊥ = λ above.
-    target.1 reached.floor (Contains-append_right (floors_before begun turns) (floors_listed begun turns) reached.floor reached.among) (inl above) in
-    omega (arith, upto, reached.high)
 
 -- ---- ends
 

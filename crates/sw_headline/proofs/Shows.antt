@@ -10,15 +10,16 @@ use Rattle.sw_get.specs.declared.end.GetEnd.TheVariants.{Absent, Buried, Found, 
 use Rattle.sw_get.proofs.Ends.{ends_buried, ends_overtaken, ends_too_few, ends_unanswered}
 use Rattle.sw_get.proofs.Shown.{shown_among}
 use Rattle.sw_scene.specs.Scene.{StartedPut}
-use Rattle.sw_headline.specs.Ends.{IsNotOlder, IsOvertaken, Shows}
+use Rattle.sw_rounds.specs.Ends.{IsNotOlder, IsOvertaken, Shows}
 use Rattle.sw_headline.specs.Headline.{IsAfterPut, ShowsOrOvertaken}
 use Rattle.sw_headline.proofs.After.{all_events, got, is_place, new_sound, promises, stamps, whole_run}
 use Rattle.sw_headline.proofs.Gets.{IsGot}
 use Rattle.sw_headline.proofs.Level.{not-wanting}
 use Rattle.sw_headline.proofs.NeverOlder.{never_older, put-reached}
-use Rattle.sw_headline.proofs.Reached.{IsReached, target-reached}
-use Rattle.sw_headline.proofs.Handed.{told-here}
-use Rattle.sw_headline.proofs.Stamps.{has_listing, listing_by, no_delete, starts_later, tombstone_there}
+use Rattle.sw_rounds.proofs.Reached.{IsReached, target-reached}
+use Rattle.sw_rounds.proofs.Handed.{told-here}
+use Rattle.sw_rounds.proofs.Listed.{has_listing, tombstone_there}
+use Rattle.sw_headline.proofs.Stamps.{listing_by, no_delete, starts_later}
 
 module _ (cluster : ClusterModel) (stamp commits : ℕ) (out : List ℕ) (end : GetEnd) (is : IsAfterPut cluster stamp commits out end) (fewer : length out < commits) (room : length out + cluster.policy.k ≤ cluster.policy.q) where
   abbrev begun : gets.Begun

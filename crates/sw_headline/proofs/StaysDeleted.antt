@@ -21,7 +21,8 @@ use Rattle.sw_homes.specs.Homes.{WasBuried}
 use Rattle.sw_headline.specs.Headline.{IsAfterDelete, StaysDeleted}
 use Rattle.sw_headline.proofs.After.{all_events, got, hears, is_place, new_sound, old_stands, place, promises, same_cluster, same_place, stamps, told-before, whole_run}
 use Rattle.sw_homes.proofs.Buried.{buried as hears_buried}
-use Rattle.sw_headline.proofs.Reached.{IsReached, is-reached, not-older}
+use Rattle.sw_rounds.proofs.Reached.{IsReached}
+use Rattle.sw_headline.proofs.Reached.{is-reached, not-older}
 
 module _ (cluster : ClusterModel) (stamp marks : ℕ) (out : List ℕ) (end : GetEnd) (is : IsAfterDelete cluster stamp marks out end) where
   abbrev own_place : PlaceModel

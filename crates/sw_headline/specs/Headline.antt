@@ -3,10 +3,8 @@ use Rattle.std.specs.Prelude.{◌≡◌, ◌⊎◌, ◌≤◌, ◌<◌, ℕ, ◌
 use Rattle.sw_types.specs.Name.{NameModel}
 use Rattle.sw_ring.specs.Cluster.{ClusterModel}
 use Rattle.sw_message.specs.Transcript.{Step}
-use Rattle.sw_message.specs.declared.miss.Miss.{Miss}
 use Rattle.sw_delete.specs.Delete as deletes
 use Rattle.sw_delete.specs.declared.end.DeleteEnd.TheVariants.{Deleted}
-use Rattle.sw_get.specs.Causes.{WasMissed}
 use Rattle.sw_get.specs.Get as gets
 use Rattle.sw_get.specs.declared.end.GetEnd.{GetEnd}
 use Rattle.sw_put.specs.Put as puts
@@ -15,7 +13,8 @@ use Rattle.sw_scene.specs.Scene.{IsLostSince, StartedDelete, StartedPut}
 use Rattle.sw_core.specs.Event.{Event, IsRun, Lead}
 use Rattle.sw_core.specs.Operating.{Delete, IsGetOf, Put}
 use Rattle.sw_core.specs.World.{Operating, World, numbered}
-use Rattle.sw_headline.specs.Ends.{IsNotOlder, IsOvertaken, Shows}
+use Rattle.sw_rounds.specs.Ends.{IsNotOlder, IsOvertaken, Shows}
+use Rattle.sw_rounds.specs.Missed.{HasMissed}
 
 -- ---- acknowledgements
 
@@ -39,10 +38,6 @@ pub record IsDeletedIn (world : World) (begun : deletes.Begun) (marks : ℕ) (ex
   pub ended : deletes.delete_end begun operation.past ≡ Some (Deleted begun.stamp marks existed)
 
 -- ---- later gets
-
--- a device missed a message of a get: it did not answer, or its answer was a miss
-abbrev pub HasMissed : gets.Begun → List Step → (device : ℕ) → Type 0
-HasMissed begun past device = (turns : List gets.Turn) × gets.AreTurns begun past turns × (miss : Miss) × WasMissed turns (device, miss)
 
 -- These devices are out for a get: every one that was lost since a step, and every one that missed a message of it.
 pub record AreOut (world : World) (begun : gets.Begun) (past : List Step) (start : ℕ) (out : List ℕ) : Type 0 where

@@ -9,9 +9,9 @@ use Rattle.sw_scene.specs.Scene.{Mail, disk_of, known_to}
 use Rattle.sw_scene.specs.Sound.{IsDrawn, MayBeMade}
 use Rattle.sw_core.specs.Sound.{IsSoundWorld}
 use Rattle.sw_core.specs.World.{World}
-use Rattle.sw_decided.specs.Decided.{KeepsStamps}
+use Rattle.sw_owed.specs.Decided.{KeepsStamps}
 use Rattle.sw_duties.specs.Counted.{CountsApart}
-use Rattle.sw_duties.specs.Duties.{KeepsDuties}
+use Rattle.sw_owed.specs.Duties.{KeepsDuties}
 
 -- only the folders of the cluster's places have files
 abbrev pub AreOfPlaces : ClusterModel → Folders → Type 0

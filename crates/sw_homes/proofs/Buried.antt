@@ -11,11 +11,11 @@ use Rattle.sw_message.specs.declared.reply.Reply.TheVariants as reply
 use Rattle.sw_claim.specs.Claim.{ATombstone, Claim}
 use Rattle.sw_scene.specs.Scene.{Scene, StartedDelete}
 use Rattle.sw_scene.specs.Sound.{IsSoundScene}
-use Rattle.sw_promise.specs.Promise.{KeepsPromises}
-use Rattle.sw_promise.proofs.Claimed.{change_claimed}
-use Rattle.sw_decided.specs.Decided.{IsMessageBy, KeepsStamps}
+use Rattle.sw_owed.specs.Promise.{KeepsPromises}
+use Rattle.sw_owed.proofs.Claimed.{change_claimed}
+use Rattle.sw_owed.specs.Decided.{IsMessageBy, KeepsStamps}
 use Rattle.sw_homes.specs.Homes.{AreHeard, IsFloorHeard, Reaches, Shown, WasBuried}
-use Rattle.sw_decided.proofs.Dates.{asked_by, delete_from, from_delete}
+use Rattle.sw_owed.proofs.Dates.{asked_by, delete_from, from_delete}
 use Rattle.sw_homes.proofs.Fewer.{fewer_left, is_touched, left_by, untouched}
 use Rattle.sw_homes.proofs.Floors.{above_in, tombstone_in}
 use Rattle.sw_homes.proofs.Heard.{IsBorne, heard_of}

@@ -11,12 +11,12 @@ use Rattle.sw_message.specs.declared.target.Target.{Target}
 use Rattle.sw_claim.specs.Claim.{ADurableEntry}
 use Rattle.sw_scene.specs.Scene.{Scene, StartedPut}
 use Rattle.sw_scene.specs.Sound.{IsSoundScene}
-use Rattle.sw_promise.specs.Promise.{KeepsPromises}
-use Rattle.sw_promise.proofs.Claimed.{change_claimed}
-use Rattle.sw_decided.specs.Decided.{AreApart, IsMessageBy, KeepsStamps}
+use Rattle.sw_owed.specs.Promise.{KeepsPromises}
+use Rattle.sw_owed.proofs.Claimed.{change_claimed}
+use Rattle.sw_owed.specs.Decided.{AreApart, IsMessageBy, KeepsStamps}
 use Rattle.sw_homes.specs.Homes.{AreHeard, IsFloorHeard, IsUntouched, Reaches, Shown, WasCommitted}
 use Rattle.sw_homes.proofs.Counting.{homes}
-use Rattle.sw_decided.proofs.Dates.{asked_by, from_put, put_from}
+use Rattle.sw_owed.proofs.Dates.{asked_by, from_put, put_from}
 use Rattle.sw_homes.proofs.Floors.{above_in, durable_in}
 use Rattle.sw_homes.proofs.Heard.{IsBorne, borne}
 

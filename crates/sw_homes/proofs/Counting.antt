@@ -8,7 +8,7 @@ use Rattle.sw_ring.specs.Cluster.{ClusterModel, KeepsRules, column_of}
 use Rattle.sw_ring.specs.Ring.{option_is}
 use Rattle.sw_message.specs.Warrant.{IsHome}
 use Rattle.sw_message.specs.declared.target.Target.{Target}
-use Rattle.sw_decided.specs.Decided.{AreApart}
+use Rattle.sw_owed.specs.Decided.{AreApart}
 use Rattle.sw_homes.specs.Homes.{AreLeft, IsHomeOf, IsUntouched}
 use Rattle.sw_homes.proofs.Devices.{home_index, one_index}
 use Rattle.sw_homes.proofs.Fewer.{fewer_left, is_touched, left_by, untouched}

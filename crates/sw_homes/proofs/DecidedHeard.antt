@@ -15,12 +15,12 @@ use Rattle.sw_message.specs.declared.target.Target.{Target}
 use Rattle.sw_claim.specs.Claim.{ADurableEntry, AnEntry}
 use Rattle.sw_scene.specs.Scene.{Scene, StartedPut}
 use Rattle.sw_scene.specs.Sound.{IsSoundScene}
-use Rattle.sw_promise.specs.Promise.{KeepsPromises}
-use Rattle.sw_promise.proofs.Claimed.{change_claimed}
-use Rattle.sw_decided.specs.Decided.{IsMessageBy, KeepsStamps, WasDecided, WasPut, WasStored}
+use Rattle.sw_owed.specs.Promise.{KeepsPromises}
+use Rattle.sw_owed.proofs.Claimed.{change_claimed}
+use Rattle.sw_owed.specs.Decided.{IsMessageBy, KeepsStamps, WasDecided, WasPut, WasStored}
 use Rattle.sw_homes.specs.Homes.{AreHeard, IsListed, IsUntouched, Shown}
 use Rattle.sw_homes.proofs.Counting.{homes}
-use Rattle.sw_decided.proofs.Dates.{IsFrom, asked_by, from_put, put_from}
+use Rattle.sw_owed.proofs.Dates.{IsFrom, asked_by, from_put, put_from}
 use Rattle.sw_homes.proofs.Floors.{above_in}
 use Rattle.sw_homes.proofs.Heard.{IsBorne, Lists, borne}
 

@@ -9,7 +9,7 @@ use Rattle.sw_ring.proofs.Roles.{column_length}
 use Rattle.sw_message.specs.Message.{IsMember, is_primary}
 use Rattle.sw_message.specs.Warrant.{IsHome, IsPrimaryOf}
 use Rattle.sw_message.specs.declared.target.Target.{Target}
-use Rattle.sw_promise.proofs.Primaries.{at_primary}
+use Rattle.sw_owed.proofs.Primaries.{at_primary}
 
 module _ (cluster : ClusterModel) (place : PlaceModel) where
   -- an index has one primary

@@ -7,11 +7,11 @@ use Rattle.sw_message.specs.Warrant.{IsHome, ListsFloor}
 use Rattle.sw_claim.specs.Claim.{ADurableEntry, Claim, IsOfIndex, ListsWhat, What}
 use Rattle.sw_scene.specs.Scene.{Scene}
 use Rattle.sw_scene.specs.Sound.{IsSoundScene}
-use Rattle.sw_promise.specs.Promise.{HandedOnBefore, IsClaimed, KeepsPromises, Listed, LostSince, Made, WasHandedOn, WasShown}
-use Rattle.sw_promise.proofs.Primaries.{at_primary}
-use Rattle.sw_decided.specs.Decided.{KeepsStamps}
+use Rattle.sw_owed.specs.Promise.{HandedOnBefore, IsClaimed, KeepsPromises, Listed, LostSince, Made, WasHandedOn, WasShown}
+use Rattle.sw_owed.proofs.Primaries.{at_primary}
+use Rattle.sw_owed.specs.Decided.{KeepsStamps}
 use Rattle.sw_homes.specs.Homes.{AreHeard, IsUntouched, Shown}
-use Rattle.sw_decided.proofs.Dates.{IsFrom, dated}
+use Rattle.sw_owed.proofs.Dates.{IsFrom, dated}
 use Rattle.sw_homes.proofs.Devices.{no_handoff, one_device, primary_at, primary_known}
 
 -- a listing shows what is claimed of a stamp, or a floor above the stamp

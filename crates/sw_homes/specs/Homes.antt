@@ -15,8 +15,8 @@ use Rattle.sw_message.specs.declared.reply.Reply.{Reply}
 use Rattle.sw_message.specs.declared.reply.Reply.TheVariants as reply
 use Rattle.sw_message.specs.declared.target.Target.{Target}
 use Rattle.sw_scene.specs.Scene.{IsLostSince, Scene}
-use Rattle.sw_promise.specs.Promise.{Made, WasMade}
-use Rattle.sw_decided.specs.Decided.{AreApart}
+use Rattle.sw_owed.specs.Promise.{Made, WasMade}
+use Rattle.sw_owed.specs.Decided.{AreApart}
 
 -- ---- homes
 

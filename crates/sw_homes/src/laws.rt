@@ -11,8 +11,8 @@ ghost use Rattle.sw_message.specs.Message.{IsMember};
 ghost use Rattle.sw_message.specs.declared.target.Target.{Target as ATarget};
 ghost use Rattle.sw_scene.specs.Scene.{Scene, StartedDelete, StartedPut};
 ghost use Rattle.sw_scene.specs.Sound.{IsSoundScene};
-ghost use Rattle.sw_promise.specs.Promise.{KeepsPromises};
-ghost use Rattle.sw_decided.specs.Decided.{AreApart, KeepsStamps, WasDecided};
+ghost use Rattle.sw_owed.specs.Promise.{KeepsPromises};
+ghost use Rattle.sw_owed.specs.Decided.{AreApart, KeepsStamps, WasDecided};
 ghost use Rattle.sw_homes.specs.Homes.{AreHeard, AreLeft, IsFloorHeard, IsListed, Reaches, Shown, WasBuried, WasCommitted};
 
 /// Of fragments at different devices, each its index's primary or a handoff, those whose homes are all others than some devices are

@@ -12,7 +12,7 @@ use Rattle.sw_scene.specs.Scene.{StartedDelete, StartedPut}
 use Rattle.sw_core.specs.Operating as operations
 use Rattle.sw_core.specs.Operating.{IsGetOf}
 use Rattle.sw_core.specs.World.{Operating, numbered}
-use Rattle.sw_headline.specs.Ends.{IsNotOlder, IsOvertaken, Shows}
+use Rattle.sw_rounds.specs.Ends.{IsNotOlder, IsOvertaken, Shows}
 use Rattle.sw_headline.specs.Headline.{AreOut}
 use Rattle.sw_told.specs.declared.end.EndLine.{EndLine}
 use Rattle.sw_told.specs.declared.end.OpEnd.{OpEnd}

@@ -5,8 +5,8 @@ use Rattle.sw_hashpath.specs.Place.{PlaceModel}
 use Rattle.sw_claim.specs.Claim.{Claim}
 use Rattle.sw_scene.specs.Scene.{DeviceState, Scene, set_device}
 use Rattle.sw_events.proofs.Disks.{disk_here, disk_there}
-use Rattle.sw_promise.specs.Promise.{BearsAt}
-use Rattle.sw_promise.proofs.Kept.{DiskBears}
+use Rattle.sw_owed.specs.Promise.{BearsAt}
+use Rattle.sw_owed.proofs.Kept.{DiskBears}
 
 module _ (scene : Scene) (device : ℕ) (state : DeviceState) where
   module _ (place : PlaceModel) (claim : Claim) where

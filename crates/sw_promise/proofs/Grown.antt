@@ -7,7 +7,7 @@ use Rattle.sw_message.specs.Message.{is_primary}
 use Rattle.sw_message.specs.Warrant.{IsPrimaryOf}
 use Rattle.sw_claim.specs.Claim.{Claim, Claims, IsListedIn}
 use Rattle.sw_scene.specs.Scene.{Answer, IsLostSince, Loss, Mail, Scene}
-use Rattle.sw_promise.specs.Promise.{HandedOnBefore, IsClaimed, IsListedStill, Listed, LostSince, Made, WasHandedOn, WasMade, WasShown}
+use Rattle.sw_owed.specs.Promise.{HandedOnBefore, IsClaimed, IsListedStill, Listed, LostSince, Made, WasHandedOn, WasMade, WasShown}
 
 -- the cluster is the same, each message and each loss is still there, and time does not go back
 pub record GoesOn (before after : Scene) : Type 0 where

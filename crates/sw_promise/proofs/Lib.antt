@@ -1,13 +1,8 @@
-pub mod Claimed
 pub mod Devices
-pub mod Faults
 pub mod Grown
-pub mod Kept
 pub mod Moves
 pub mod News
-pub mod Primaries
 pub mod Quiet
-pub mod Replies
 pub mod Replying
 pub mod Runs
 pub mod Warrants

@@ -12,9 +12,9 @@ use Rattle.sw_scene.specs.Disks.{IsHeldWithin, IsSide, Sure}
 use Rattle.sw_scene.specs.Moves.{Crashes, CrashesMounting, Fails, Handles, Restarts, stopped, ticked}
 use Rattle.sw_scene.specs.Scene.{Request, Scene, disk_of, known_to, set_device}
 use Rattle.sw_scene.specs.Sound.{IsSoundScene, MayBeSent}
-use Rattle.sw_promise.specs.Promise.{BearsAt, WasHandedOn}
-use Rattle.sw_promise.proofs.Faults.{no_claim}
-use Rattle.sw_promise.proofs.Kept.{Bears, DiskBears, IsAway, away_or_not, failed_bears, found_bears, handled_bears, held_bears, left_bears, mounted_bears, sure_bears}
+use Rattle.sw_owed.specs.Promise.{BearsAt, WasHandedOn}
+use Rattle.sw_owed.proofs.Faults.{no_claim}
+use Rattle.sw_owed.proofs.Kept.{Bears, DiskBears, IsAway, away_or_not, failed_bears, found_bears, handled_bears, held_bears, left_bears, mounted_bears, sure_bears}
 use Rattle.sw_promise.proofs.News.{IsPromising}
 use Rattle.sw_promise.proofs.Quiet.{set_promising}
 use Rattle.sw_promise.proofs.Replying.{replies_promising}

@@ -9,7 +9,7 @@ use Rattle.sw_message.specs.Message.{is_primary, place_in}
 use Rattle.sw_message.specs.Warrant.{HasListing}
 use Rattle.sw_claim.specs.Claim.{Claim, IsListedIn}
 use Rattle.sw_scene.specs.Scene.{Scene, known_to}
-use Rattle.sw_promise.specs.Promise.{BearsAt, Borne, HandedOn, HandedOnBefore, IsClaimed, IsKept, IsListedStill, KeepsPromises, Listed, Lost, LostSince, Made, WasMade}
+use Rattle.sw_owed.specs.Promise.{BearsAt, Borne, HandedOn, HandedOnBefore, IsClaimed, IsKept, IsListedStill, KeepsPromises, Listed, Lost, LostSince, Made, WasMade}
 use Rattle.sw_promise.proofs.Grown.{GoesOn, claimed_before, handed_still, listed_still, lost_still}
 
 -- ---- stamps

@@ -14,12 +14,12 @@ use Rattle.sw_scene.specs.Disks.{Sure}
 use Rattle.sw_scene.specs.Moves.{books, lost, marks, requests_of, sends, ticked}
 use Rattle.sw_scene.specs.Scene.{Answer, DeviceState, IsLostSince, Loss, Mail, Request, Scene, StartedDelete, StartedPut, set_device}
 use Rattle.sw_scene.specs.Sound.{IsSoundScene}
-use Rattle.sw_promise.specs.Promise.{BearsAt, Borne, HandedOn, IsKept, Lost, Made, WasHandedOn, WasMade}
+use Rattle.sw_owed.specs.Promise.{BearsAt, Borne, HandedOn, IsKept, Lost, Made, WasHandedOn, WasMade}
 use Rattle.sw_promise.proofs.Devices.{set_bears}
 use Rattle.sw_promise.proofs.Grown.{GoesOn, handed_still}
-use Rattle.sw_promise.proofs.Kept.{DiskBears}
+use Rattle.sw_owed.proofs.Kept.{DiskBears}
 use Rattle.sw_promise.proofs.News.{AreMarksStamped, IsPromising, promising_on}
-use Rattle.sw_promise.proofs.Replies.{made_before, made_place}
+use Rattle.sw_owed.proofs.Replies.{made_before, made_place}
 use Rattle.sw_promise.proofs.Warrants.{marks_stamped}
 
 -- where no reply is new, and what was borne is kept, so are the promises

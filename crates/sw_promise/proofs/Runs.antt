@@ -10,7 +10,7 @@ use Rattle.sw_core.specs.World.{World}
 use Rattle.sw_events.specs.SceneMove.{Asked, AtDevice, Crashed, CrashedMounting, DeviceMove, Failed, Handled, Lost, Notes, NotesDelete, NotesNothing, NotesPut, Passed, Restarted, SceneMove, Stopped}
 use Rattle.sw_events.proofs.Carried.{run-carried}
 use Rattle.sw_events.proofs.SceneMoves.{scene-moves}
-use Rattle.sw_promise.specs.Promise.{KeepsPromises}
+use Rattle.sw_owed.specs.Promise.{KeepsPromises}
 use Rattle.sw_promise.proofs.Moves.{crashes_mounting_promising, crashes_promising, fails_promising, handles_promising, restarts_promising, stopped_promising}
 use Rattle.sw_promise.proofs.News.{IsPromising}
 use Rattle.sw_promise.proofs.Quiet.{books_promising, lost_promising, marks_promising, sends_promising, ticked_promising}

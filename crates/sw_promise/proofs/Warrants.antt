@@ -14,9 +14,9 @@ use Rattle.sw_scene.specs.Moves.{marks}
 use Rattle.sw_scene.specs.Scene.{Scene, StartedDelete, known_to}
 use Rattle.sw_scene.specs.Sound.{IsSoundScene}
 use Rattle.sw_scene.proofs.Growth.{mapped-cases}
-use Rattle.sw_promise.specs.Promise.{WasHandedOn, WasShown}
+use Rattle.sw_owed.specs.Promise.{WasHandedOn, WasShown}
 use Rattle.sw_promise.proofs.News.{AreMarksStamped, IsPromising}
-use Rattle.sw_promise.proofs.Replies.{known_made, made_before, made_of}
+use Rattle.sw_owed.proofs.Replies.{known_made, made_before, made_of}
 
 module _ (scene : Scene) (sound : IsSoundScene scene) where
   -- what warrants a removal was shown before now

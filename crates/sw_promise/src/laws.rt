@@ -4,7 +4,7 @@ ghost use Rattle.std.specs.Prelude.{List};
 ghost use Rattle.sw_ring.specs.Cluster.{ClusterModel};
 ghost use Rattle.sw_core.specs.Event.{Event, IsRun};
 ghost use Rattle.sw_core.specs.World.{World};
-ghost use Rattle.sw_promise.specs.Promise.{KeepsPromises};
+ghost use Rattle.sw_owed.specs.Promise.{KeepsPromises};
 
 /// Whatever happens to a cluster, one basic event after the other: what a reply claimed of its device's folder is borne by it still,
 /// unless its disk was lost since, or a handoff's duty for an entry went to the primary of its index, which had shown the entry

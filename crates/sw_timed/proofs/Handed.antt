@@ -7,7 +7,7 @@ use Rattle.sw_scene.specs.Scene.{Mail, Request}
 use Rattle.sw_core.specs.Operating.{Begun}
 use Rattle.sw_core.specs.World.{HandsOut}
 use Rattle.sw_core.proofs.Machines.{numbers}
-use Rattle.sw_timed.specs.Timed.{IsTimed}
+use Rattle.sw_rounds.specs.Timed.{IsTimed}
 
 module _ (begun : Begun) where
   -- the ticket of each message is at least the number of those that were handed out before them

@@ -7,7 +7,8 @@ use Rattle.sw_scene.specs.Scene.{Answer, Mail, Request, Scene}
 use Rattle.sw_scene.proofs.Growth.{Follows, Grows}
 use Rattle.sw_core.specs.Event.{with_scene}
 use Rattle.sw_core.specs.World.{Operating, World, numbered}
-use Rattle.sw_timed.specs.Timed.{IsTimed, IsTimely}
+use Rattle.sw_rounds.specs.Timed.{IsTimed}
+use Rattle.sw_timed.specs.Timed.{IsTimely}
 
 module _ (number : ℕ) (asked_at : ℕ → ℕ) (before after : List Mail) (kept : (mail : Mail) → Contains before mail → Contains after mail) where
   -- more messages are made, and time passes

@@ -11,7 +11,8 @@ use Rattle.sw_core.specs.Sound.{Stands}
 use Rattle.sw_core.specs.World.{Operating}
 use Rattle.sw_core.proofs.Machines.{numbers}
 use Rattle.sw_core.proofs.Transcripts.{given-below}
-use Rattle.sw_timed.specs.Timed.{IsTimed, IsTimely}
+use Rattle.sw_rounds.specs.Timed.{IsTimed}
+use Rattle.sw_timed.specs.Timed.{IsTimely}
 use Rattle.sw_timed.proofs.Going.{IsReady}
 
 module _ (scene : Scene) (sound : IsSoundScene scene) (number : ℕ) where

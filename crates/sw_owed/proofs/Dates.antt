@@ -15,10 +15,10 @@ use Rattle.sw_message.specs.declared.reply.Reply.{Reply}
 use Rattle.sw_message.specs.declared.reply.Reply.TheVariants as reply
 use Rattle.sw_scene.specs.Scene.{Scene, StartedDelete, StartedPut}
 use Rattle.sw_scene.specs.Sound.{IsSoundScene}
-use Rattle.sw_promise.specs.Promise.{Made, WasMade}
-use Rattle.sw_decided.specs.Decided.{Draw, IsFloorBy, IsListingBy, IsMessageBy, IsReplyBy, KeepsStamps, WasDeleted, WasPut, draws_of}
-use Rattle.sw_decided.proofs.Draws.{delete_draw, delete_drawn, put_draw, put_drawn}
-use Rattle.sw_decided.proofs.Requests.{listing_of}
+use Rattle.sw_owed.specs.Promise.{Made, WasMade}
+use Rattle.sw_owed.specs.Decided.{Draw, IsFloorBy, IsListingBy, IsMessageBy, IsReplyBy, KeepsStamps, WasDeleted, WasPut, draws_of}
+use Rattle.sw_owed.proofs.Draws.{delete_draw, delete_drawn, put_draw, put_drawn}
+use Rattle.sw_owed.proofs.Requests.{listing_of}
 
 -- a floor's stamp is no less than one that it stands above
 pub stands_least : (floor : Floor) (stamp : ℕ) → StandsAbove floor stamp → stamp ≤ floor.stamp

@@ -18,7 +18,7 @@ use Rattle.sw_message.specs.declared.reply.Reply.TheVariants as reply
 use Rattle.sw_message.specs.declared.target.Target.{Target}
 use Rattle.sw_claim.specs.Claim.{ADurableEntry, AnEntry, IsWhat, What}
 use Rattle.sw_scene.specs.Scene.{IsLostSince, Scene, StartedDelete, StartedPut}
-use Rattle.sw_promise.specs.Promise.{Made, OnDisk, WasMade}
+use Rattle.sw_owed.specs.Promise.{Made, OnDisk, WasMade}
 
 -- ---- folders
 

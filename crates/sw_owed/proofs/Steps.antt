@@ -12,9 +12,9 @@ use Rattle.sw_message.specs.declared.reply.Reply.{Reply}
 use Rattle.sw_objsrv.specs.Handling.{IsStamped}
 use Rattle.sw_scene.specs.Devices.{IsDeviceStep}
 use Rattle.sw_scene.specs.Scene.{Scene}
-use Rattle.sw_decided.specs.Decided.{AreNamesBy, IsMessageBy, IsReplyBy}
-use Rattle.sw_decided.proofs.Named.{AreNamed, changed_named}
-use Rattle.sw_decided.proofs.Rows.{FineAt, Holds, IsFine, handled_fine}
+use Rattle.sw_owed.specs.Decided.{AreNamesBy, IsMessageBy, IsReplyBy}
+use Rattle.sw_owed.proofs.Named.{AreNamed, changed_named}
+use Rattle.sw_owed.proofs.Rows.{FineAt, Holds, IsFine, handled_fine}
 
 module _ (scene : Scene) (by : ℕ) (before after : Folders) (were : AreNamesBy scene by before) where
   -- the names in the folder of a place

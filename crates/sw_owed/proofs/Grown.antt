@@ -15,8 +15,8 @@ use Rattle.sw_message.specs.declared.reply.Reply.{Reply}
 use Rattle.sw_message.specs.declared.reply.Reply.TheVariants as reply
 use Rattle.sw_message.specs.declared.target.Target.{Target}
 use Rattle.sw_scene.specs.Scene.{Answer, Mail, Scene, StartedDelete, StartedPut}
-use Rattle.sw_promise.specs.Promise.{Made, WasMade}
-use Rattle.sw_decided.specs.Decided.{AreApart, AreNamesBy, IsEntryBy, IsFloorBy, IsListingBy, IsMessageBy, IsNameBy, IsReplyBy, WasDecided, WasDeleted, WasPut, WasStored}
+use Rattle.sw_owed.specs.Promise.{Made, WasMade}
+use Rattle.sw_owed.specs.Decided.{AreApart, AreNamesBy, IsEntryBy, IsFloorBy, IsListingBy, IsMessageBy, IsNameBy, IsReplyBy, WasDecided, WasDeleted, WasPut, WasStored}
 
 -- the cluster is the same, each message, each put and each delete is still there, and time does not go back
 pub record GoesOn (before after : Scene) : Type 0 where

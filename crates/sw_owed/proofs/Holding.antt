@@ -13,10 +13,10 @@ use Rattle.sw_message.specs.Message.{is_primary}
 use Rattle.sw_message.specs.Step.{Folders}
 use Rattle.sw_claim.specs.Claim.{ATombstone, Claim, IsBorneBy, ShowsFloor}
 use Rattle.sw_claim.proofs.Normal.{normal_bears}
-use Rattle.sw_duties.specs.Duties.{HasFloorOf, Holds}
+use Rattle.sw_owed.specs.Duties.{HasFloorOf, Holds}
 use Rattle.sw_claim.proofs.Normal.{left_before}
-use Rattle.sw_decided.proofs.Dates.{stands_least}
-use Rattle.sw_duties.proofs.Floors.{has_floor, top_reaches, top_stands}
+use Rattle.sw_owed.proofs.Dates.{stands_least}
+use Rattle.sw_owed.proofs.Floors.{has_floor, top_reaches, top_stands}
 
 -- a tombstone shows its own floor
 tombstone_shows : (stamp : ℕ) (name : FileName) → name ≡ Tombstone stamp → ShowsFloor name (record { stamp = stamp; kind = kind.Tombstone })

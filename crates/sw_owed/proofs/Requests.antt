@@ -17,10 +17,10 @@ use Rattle.sw_message.specs.declared.target.Target.{Target}
 use Rattle.sw_quorum.specs.Quorums.{quorums}
 use Rattle.sw_scene.specs.Scene.{Request, Scene, StartedDelete, StartedPut, known_to}
 use Rattle.sw_scene.specs.Sound.{IsSoundScene}
-use Rattle.sw_promise.specs.Promise.{Made, WasMade}
-use Rattle.sw_promise.proofs.Replies.{known_made, made_of}
-use Rattle.sw_decided.specs.Decided.{IsEntryBy, IsListingBy, IsMessageBy, IsReplyBy, WasDeleted, WasPut, WasStored}
-use Rattle.sw_decided.proofs.Grown.{deleted_still, entry_still, same_scene}
+use Rattle.sw_owed.specs.Promise.{Made, WasMade}
+use Rattle.sw_owed.proofs.Replies.{known_made, made_of}
+use Rattle.sw_owed.specs.Decided.{IsEntryBy, IsListingBy, IsMessageBy, IsReplyBy, WasDeleted, WasPut, WasStored}
+use Rattle.sw_owed.proofs.Grown.{deleted_still, entry_still, same_scene}
 
 -- a listing in a reply is by the reply's step
 pub listing_of : (scene : Scene) (place : PlaceModel) (by : ℕ) (answer : Reply) (listing : ListingModel) → HasListing answer listing → IsReplyBy scene place by answer → IsListingBy scene place by listing

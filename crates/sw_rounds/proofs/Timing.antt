@@ -5,7 +5,7 @@ use Rattle.sw_message.specs.Transcript.{Gave, Step, Told}
 use Rattle.sw_message.specs.declared.reply.Reply.{Reply}
 use Rattle.sw_message.specs.declared.sent.Sent.{Sent}
 use Rattle.sw_scene.specs.Scene.{Answer, Mail, Request}
-use Rattle.sw_timed.specs.Timed.{IsTimed}
+use Rattle.sw_rounds.specs.Timed.{IsTimed}
 
 module _ (mail : List Mail) (number : ℕ) (asked_at : ℕ → ℕ) where
   -- a reply to a message, made after its request, and by a step

@@ -13,9 +13,9 @@ use Rattle.sw_claim.proofs.Normal.{left_before}
 use Rattle.sw_scene.specs.Devices.{IsDeviceStep}
 use Rattle.sw_scene.specs.Disks.{Disk, IsFailedBy, IsFoundOn, IsHeldWithin, IsLeftOf, IsMounted, IsSide, Sure, Undecided}
 use Rattle.sw_scene.specs.Scene.{Scene}
-use Rattle.sw_decided.specs.Decided.{AreNamesBy, IsMessageBy}
-use Rattle.sw_decided.proofs.Named.{name_in}
-use Rattle.sw_decided.proofs.Steps.{stepped}
+use Rattle.sw_owed.specs.Decided.{AreNamesBy, IsMessageBy}
+use Rattle.sw_owed.proofs.Named.{name_in}
+use Rattle.sw_owed.proofs.Steps.{stepped}
 
 module _ (scene : Scene) (by : ℕ) where
   abbrev Names : Folders → Type 0

@@ -14,7 +14,7 @@ use Rattle.sw_diskfile.proofs.Floors.{floor_of}
 use Rattle.sw_diskfile.proofs.Spelt.{directory_of}
 use Rattle.sw_message.specs.Step.{Folders}
 use Rattle.sw_claim.specs.Claim.{ShowsFloor}
-use Rattle.sw_duties.specs.Duties.{HasFloorOf}
+use Rattle.sw_owed.specs.Duties.{HasFloorOf}
 
 -- ---- a floor that another is not above
 

@@ -23,7 +23,7 @@ use Rattle.sw_message.specs.declared.reply.Reply.TheVariants as reply
 use Rattle.sw_message.specs.declared.sent.Sent.{Sent}
 use Rattle.sw_message.specs.declared.target.Target.{Target}
 use Rattle.sw_scene.specs.Scene.{Request, Scene, StartedDelete, StartedPut}
-use Rattle.sw_promise.specs.Promise.{Made, OnDisk, WasMade}
+use Rattle.sw_owed.specs.Promise.{Made, OnDisk, WasMade}
 
 -- ---- what was started
 

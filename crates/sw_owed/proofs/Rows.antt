@@ -26,8 +26,8 @@ use Rattle.sw_objsrv.specs.Handling.{IsStamped}
 use Rattle.sw_objsrv.proofs.RowForms.{archive_name}
 use Rattle.sw_scene.specs.Scene.{Scene}
 use Rattle.sw_scene.proofs.Changed.{Keeps, removals-keep}
-use Rattle.sw_decided.specs.Decided.{IsEntryBy, IsFloorBy, IsListingBy, IsMessageBy, IsNameBy, IsReplyBy, WasDeleted, WasPut}
-use Rattle.sw_decided.proofs.Named.{AreNamed, IsNamed, made_named}
+use Rattle.sw_owed.specs.Decided.{IsEntryBy, IsFloorBy, IsListingBy, IsMessageBy, IsNameBy, IsReplyBy, WasDeleted, WasPut}
+use Rattle.sw_owed.proofs.Named.{AreNamed, IsNamed, made_named}
 
 module _ (scene : Scene) (by : ℕ) (place : PlaceModel) where
   -- a name of the place is by the step

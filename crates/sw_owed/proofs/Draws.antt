@@ -9,7 +9,7 @@ use Rattle.sw_scene.specs.Moves.{books, marks, next_stamp, sends}
 use Rattle.sw_scene.specs.Scene.{Scene, StartedDelete, StartedPut}
 use Rattle.sw_scene.specs.Sound.{IsDrawn, IsSoundScene}
 use Rattle.sw_scene.proofs.Growth.{mapped-cases}
-use Rattle.sw_decided.specs.Decided.{Draw, Rise, draws_of}
+use Rattle.sw_owed.specs.Decided.{Draw, Rise, draws_of}
 
 -- where none is drawn
 pub still_rise : (before after : Scene) → draws_of after ≡ draws_of before → before.now ≤ after.now → Rise before → Rise after

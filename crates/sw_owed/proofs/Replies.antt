@@ -9,7 +9,7 @@ use Rattle.sw_message.specs.declared.sent.Sent.{Sent}
 use Rattle.sw_scene.specs.Scene.{Answer, Mail, Request, Scene, heard_in, known_to}
 use Rattle.sw_scene.specs.Sound.{IsSoundScene}
 use Rattle.sw_scene.proofs.Growth.{answered}
-use Rattle.sw_promise.specs.Promise.{Made, WasMade}
+use Rattle.sw_owed.specs.Promise.{Made, WasMade}
 
 -- each reply that is known is among the messages
 heard_made : (mail : List Mail) (heard : Heard) → Contains (heard_in mail) heard → (at operation : ℕ) × (sent : Sent) × (given : Reply) × Contains mail (Answer at operation sent given) × (answered sent given ≡ heard)

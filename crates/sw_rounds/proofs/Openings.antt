@@ -8,8 +8,8 @@ use Rattle.sw_get.specs.Get.{AreTurns, Begun, Hears, Round, Sends, Turn, is_firs
 use Rattle.sw_get.specs.Meaning.{Meaning}
 use Rattle.sw_get.proofs.Turns.{all, now}
 use Rattle.sw_scene.specs.Scene.{Mail}
-use Rattle.sw_timed.specs.Timed.{IsTimed}
-use Rattle.sw_headline.proofs.Timing.{gave-made}
+use Rattle.sw_rounds.specs.Timed.{IsTimed}
+use Rattle.sw_rounds.proofs.Timing.{gave-made}
 
 -- a message of the round that was handed out no later than any other
 pub record IsSentFirst (asked_at : ℕ → ℕ) (past : List Step) (round : List Turn) : Type 0 where

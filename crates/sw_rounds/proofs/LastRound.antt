@@ -15,8 +15,8 @@ use Rattle.sw_get.specs.Meaning.{Lists, Meaning, asked_meaning}
 use Rattle.sw_get.proofs.Meanings.{asked_cases}
 use Rattle.sw_get.proofs.Shown.{IsTold, all_told, held_of, parts}
 use Rattle.sw_get.proofs.Turns.{all, now}
-use Rattle.sw_headline.specs.Headline.{HasMissed}
-use Rattle.sw_headline.proofs.Handed.{in_whole}
+use Rattle.sw_rounds.specs.Missed.{HasMissed}
+use Rattle.sw_rounds.proofs.Handed.{in_whole}
 
 -- what a turn tells is among what all tell
 pub in_heard : {A : Type 0} (tells : ℕ → Msg → Meaning → List A) (turns : List Turn) (sent : Sent) (meaning : Meaning) (x : A) → Contains turns (Hears sent meaning) → Contains (tells sent.device sent.msg meaning) x

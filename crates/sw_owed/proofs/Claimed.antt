@@ -6,7 +6,7 @@ use Rattle.sw_message.specs.declared.message.Msg.{Msg}
 use Rattle.sw_message.specs.declared.reply.Reply.{Reply}
 use Rattle.sw_claim.specs.Claim.{Claim, ClaimsChange}
 use Rattle.sw_scene.specs.Scene.{Scene}
-use Rattle.sw_promise.specs.Promise.{IsClaimed, Made, WasMade}
+use Rattle.sw_owed.specs.Promise.{IsClaimed, Made, WasMade}
 
 -- it claims what that made
 pub change_claimed : (scene : Scene) (made : Made) (place : PlaceModel) (claim : Claim) (msg : Msg) (given : Reply) → WasMade scene made → made.msg ≡ msg → made.reply ≡ given → place_in msg ≡ Some place → ClaimsChange msg given claim

@@ -1,0 +1,16 @@
+pub mod Claimed
+pub mod Dates
+pub mod Draws
+pub mod Faults
+pub mod Floors
+pub mod Grown
+pub mod Held
+pub mod Holding
+pub mod Kept
+pub mod Losses
+pub mod Named
+pub mod Primaries
+pub mod Replies
+pub mod Requests
+pub mod Rows
+pub mod Steps
