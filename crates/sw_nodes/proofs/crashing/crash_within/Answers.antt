@@ -1,4 +1,4 @@
-use Rattle.std.proofs.Common.{◌≡◌, ℕ, ◌+◌, max, min, Some, ap, sym, subst, ◌∙◌, arith}
+use Rattle.std.proofs.Common.{◌≡◌, ℕ, ◌+◌, max, min, Some, true, ap, sym, subst, ◌∙◌, arith}
 use Rattle.sw_words.specs.Counts.{last_count}
 use Rattle.sw_memdisk.specs.Memory.{LeftBy, MemDiskModel, crashed, seen_of}
 use Rattle.sw_objsrv.specs.Node.{HandlesWhenMounted, IsNode}
