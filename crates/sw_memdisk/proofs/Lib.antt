@@ -7,6 +7,7 @@ mod Done
 mod Files
 pub mod FoundFiles
 mod Keeping
+mod Lending
 mod Lookups
 mod Moments
 mod Ranks

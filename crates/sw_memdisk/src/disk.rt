@@ -8,6 +8,7 @@ ghost use Rattle.sw_disk.specs.State.{synced};
 ghost use Rattle.sw_disk.specs.declared.refusal.DiskRefusal.TheVariants.{Failed};
 ghost use Rattle.sw_memdisk.specs.Change.{AreShort, change_of};
 ghost use Rattle.sw_memdisk.specs.Held.{content_of};
+ghost use Rattle.sw_memdisk.specs.Lent.{LendsFiles};
 ghost use Rattle.sw_memdisk.specs.Log.{IsSound, files_now, folder_of, with_change, with_sync};
 ghost use Rattle.sw_memdisk.specs.Memory.{Becomes, IsRoomier, bytes_in, crashed, fails, fails_at, folder_at, log_at, room_at, state_of, used_by};
 
@@ -117,6 +118,27 @@ impl MemDisk {
         self.folders.get(folder)?.find(name)
     }
 
+    /// The bytes of the published files of a folder by their names, of each name those of the first file: it goes over the files
+    /// once, and one is found in it in time that grows with the logarithm of their number. No device call is made.
+    pub fn lend(&self, alloc: Global, folder: &str) -> Result<BTreeMap<&str, &[u8]>, NoMemory>
+        ensures { IfOk result (LendsFiles (files_now (log_at self.now.folders folder.now))) }
+    {
+        match self.folders.get(folder) {
+            Some(found) => found.lend(alloc),
+            None => Ok(BTreeMap::new(alloc)),
+        }
+    }
+
+    /// The names of a folder's files, ascending. No device call is made.
+    pub fn names(&self, alloc: Global, folder: &str) -> Result<Vec<String>, NoMemory>
+        ensures { IfOk result (λ names. IsListing (names_of (files_now (log_at self.now.folders folder.now))) (texts_of names.items)) }
+    {
+        match self.folders.get(folder) {
+            Some(found) => found.names(alloc),
+            None => Ok(Vec::new(alloc)),
+        }
+    }
+
     // Counts a device call, and fails where it is to fail.
     pub(crate) fn count(&mut self) -> Result<(), DiskRefusal>
         ensures goes_on { OnOk result (fails self.old (self.old.calls + 1) ≡ false) }
@@ -187,16 +209,6 @@ impl MemDisk {
         ensures used { IfOk result (λ names. used_by self.now.folders ≡ sum_by (λ name. bytes_in (folder_at self.now.folders name)) (texts_of names.items)) }
     {
         busy_names(alloc, &self.folders)
-    }
-
-    // The names of a folder's files, ascending.
-    pub(crate) fn names(&self, alloc: Global, folder: &str) -> Result<Vec<String>, NoMemory>
-        ensures { IfOk result (λ names. IsListing (names_of (files_now (log_at self.now.folders folder.now))) (texts_of names.items)) }
-    {
-        match self.folders.get(folder) {
-            Some(found) => found.names(alloc),
-            None => Ok(Vec::new(alloc)),
-        }
     }
 
     // Changes the names of a folder that has room for it.

@@ -10,11 +10,13 @@ ghost use Rattle.sw_disk.specs.Folder.{content_at};
 ghost use Rattle.sw_disk.specs.State.{size_of};
 ghost use Rattle.sw_memdisk.specs.Change.{AreShort, change_of};
 ghost use Rattle.sw_memdisk.specs.Held.{content_of};
+ghost use Rattle.sw_memdisk.specs.Lent.{LendsFiles};
 ghost use Rattle.sw_memdisk.specs.Log.{crashed_log, empty_log, files_now, folder_of, with_change, with_sync};
 
 use crate::change::NameChange;
 use crate::held::{Held, MemContent, Move, apply_all, copy_files, label, lose_all, note};
 use std::alloc::Global;
+use std::collections::BTreeMap;
 use std::marker::Model;
 use sw_types::NoMemory;
 
@@ -169,6 +171,21 @@ impl MemFolder {
     {
         let held = self.files.iter().find(|held| held.name.as_str() == name)?;
         Some(self.contents[held.content].bytes.as_slice())
+    }
+
+    /// The bytes of the files by their names, of each name those of the first file.
+    pub(crate) fn lend(&self, alloc: Global) -> Result<BTreeMap<&str, &[u8]>, NoMemory>
+        ensures { IfOk result (LendsFiles (files_now self.now.log)) }
+    {
+        let mut lent = BTreeMap::new(alloc);
+        let mut place = self.files.len();
+        'files: while place > 0 {
+            place -= 1;
+            let held = &self.files[place];
+            let bytes = self.contents[held.content].bytes.as_slice();
+            lent.insert(held.name.as_str(), bytes)?;
+        }
+        Ok(lent)
     }
 
     /// The names of the files, ascending.

@@ -119,6 +119,19 @@ fn expect_names(rt: &impl Abort, disk: &MemDisk, names: &[&str]) {
     }
 }
 
+// Of a name the folder `f` lends these bytes.
+fn expect_lent(
+    rt: &impl Abort,
+    alloc: Global,
+    disk: &MemDisk,
+    name: &str,
+    bytes: Option<&[u8]>,
+) -> Result<(), Fail> {
+    let lent = disk.lend(alloc, "f")?;
+    assert_eq!(rt; lent.get(name).copied(), bytes);
+    Ok(())
+}
+
 #[test]
 fn lists_reads_renames_and_removes(rt: HostRuntime) -> Result<(), Fail> {
     let alloc = rt.alloc();
@@ -129,6 +142,8 @@ fn lists_reads_renames_and_removes(rt: HostRuntime) -> Result<(), Fail> {
     expect_names(&rt, &disk, &["a", "c"]);
     let names = disk.list(alloc, "f")?;
     assert_eq!(rt; names.len(), 2);
+    expect_lent(&rt, alloc, &disk, "c", Some(b"12"))?;
+    expect_lent(&rt, alloc, &disk, "b", None)?;
     assert_eq!(rt; read(&mut disk, alloc, "c")?.as_slice(), b"12".as_slice());
     remove(&mut disk, alloc, "a")?;
     expect_names(&rt, &disk, &["c"]);

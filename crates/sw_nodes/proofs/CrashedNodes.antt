@@ -1,17 +1,18 @@
 -- A node whose device lost power, among the nodes of its cluster.
-use Rattle.std.proofs.Common.{◌≡◌, ◌≢◌, ℕ, ◌==◌, ◌||◌, Bool, true, false, List, Option, Some, refl, sym, ap, subst, ◌∙◌}
+use Rattle.std.proofs.Common.{◌≡◌, ◌≢◌, ℕ, ◌+◌, ◌==◌, ◌||◌, Bool, true, false, List, Option, Some, ltb, max, refl, sym, ap, subst, ◌∙◌}
 use Rattle.std.specs.List.{All}
-use Rattle.std.proofs.lemmas.Bool.{eq-eqb, true≢false}
+use Rattle.std.proofs.lemmas.Bool.{eq-eqb, ltb-true, true≢false}
 use Rattle.sw_memdisk.specs.Memory.{MemDiskModel, crashed, seen_of, state_of}
 use Rattle.sw_ring.specs.Ring.{is_among}
 use Rattle.sw_message.specs.Message.{IsPlaceOf, place_in}
 use Rattle.sw_message.specs.Step.{Folders}
 use Rattle.sw_message.specs.declared.message.Msg.{Msg}
+use Rattle.sw_message.specs.declared.reply.Reply.{Reply}
 use Rattle.sw_objsrv.specs.Handling.{folders_of}
 use Rattle.sw_objsrv.specs.Node.{IsNode}
 use Rattle.sw_scene.specs.Devices.{capacity_of}
 use Rattle.sw_scene.specs.Disks.{IsHeldWithin, IsLeftOf, Sure}
-use Rattle.sw_nodes.specs.Crashing.{Crashes, IsCrashedAt, IsCut, fused}
+use Rattle.sw_nodes.specs.Crashing.{Crashes, IsCrashedAt, IsCut, cut_of, fused}
 use Rattle.sw_nodes.specs.Nodes.{AreNodes, IsSettledDisk, MemNode, NodesModel, devices_of, files_at, node_of}
 use Rattle.sw_nodes.proofs.Capacities.{handles_capacity, handles_device}
 use Rattle.sw_nodes.proofs.CrashedDisks.{settled_crashed}
@@ -62,6 +63,13 @@ module _ (all : NodesModel) (are : AreNodes all) (place : ℕ) (msg : Msg) (call
     mounted : old.is_due ≡ false
     mounted = it_is (λ (node : MemNode). is_among all.down node.device ≡ false → node.is_due ≡ false) (are.mounted goes) up
 
+    -- its calls were used up
+    abbrev used : Bool
+    used = ltb (old.disk.calls + max calls 1) between.disk.calls
+
+    was_cut : cut_of at.crashes.reply used ≡ true
+    was_cut = sym at.crashes.cut_is ∙ told
+
     cut_node : IsCutNode all.cluster msg calls old between
     cut_node = record {
       reply = at.crashes.reply;
@@ -71,8 +79,8 @@ module _ (all : NodesModel) (are : AreNodes all) (place : ℕ) (msg : Msg) (call
       is_node = it_is (IsNode all.cluster seen_of) are.are;
       settled = it_is (λ (node : MemNode). IsSettledDisk node.disk) (are.settled goes);
       capacity = old_capacity;
-      memory = at.crashes.memory told;
-      used_up = at.crashes.used_up told;
+      memory = λ wants. absurd (true≢false (sym was_cut ∙ ap (λ (reply : Reply). cut_of reply used) wants));
+      used_up = λ failed. ltb-true (old.disk.calls + max calls 1) between.disk.calls (ap (λ (reply : Reply). cut_of reply used) (sym failed) ∙ was_cut);
     }
 
     -- its folders before and after

@@ -1,7 +1,7 @@
 -- A node whose disk gets a fuse is still a node, and its disk's calls go on no longer than that.
-use Rattle.std.proofs.Common.{◌≡◌, ℕ, ◌+◌, Bool, true, false, ◌||◌, ◌==◌, ltb, max, min, refl, ap, ◌∙◌, arith}
+use Rattle.std.proofs.Common.{◌≡◌, ⊎_elim, ℕ, ◌+◌, ◌≤◌, Bool, true, false, ◌||◌, ◌==◌, ltb, max, min, refl, sym, ap, ◌∙◌, arith}
 use Rattle.std.specs.List.{list_any}
-use Rattle.std.proofs.lemmas.Bool.{lt-ltb, true≢false}
+use Rattle.std.proofs.lemmas.Bool.{cases_lt, le-ltb, lt-ltb, true≢false}
 use Rattle.sw_words.specs.Counts.{last_count}
 use Rattle.sw_memdisk.specs.Memory.{MemDiskModel, fails, seen_of}
 use Rattle.sw_ring.specs.Cluster.{ClusterModel}
@@ -41,3 +41,10 @@ fuse_fails calls node =
     ends true b = refl
     ends false true = refl
     ends false false = refl
+
+-- Whether the calls of a fuse were used up does not depend on where the count of calls ends.
+pub used_up : (begun calls ended last count : ℕ) → last ≡ min (begun + max calls 1) last_count → count ≡ ended → count ≤ last_count → ltb last count ≡ ltb (begun + max calls 1) ended
+used_up begun calls ended last count is same within = ⊎_elim
+    (λ more. lt-ltb last count (omega (arith, is, same, more, within)) ∙ sym (lt-ltb (begun + max calls 1) ended more))
+    (λ few. le-ltb last count (omega (arith, is, same, few, within)) ∙ sym (le-ltb (begun + max calls 1) ended few))
+    (cases_lt (begun + max calls 1) ended)

@@ -1,5 +1,5 @@
 -- A device that stops within the handling of a message: what its disk holds after so many device calls and a crash.
-use Rattle.std.specs.Prelude.{◌≡◌, ◌≢◌, ℕ, ◌+◌, ◌<◌, ◌==◌, Bool, true, ◌||◌, List, [], max, min, slice_get, slice_set, take, map, None, Some}
+use Rattle.std.specs.Prelude.{◌≡◌, ◌≢◌, ◌⊎◌, ℕ, ◌+◌, ◌==◌, Bool, true, false, ◌||◌, List, [], max, min, nat_lt, slice_get, slice_set, take, map, None, Some}
 use Rattle.sw_words.specs.Counts.{last_count}
 use Rattle.sw_disk.specs.Calls.{Call, Do}
 use Rattle.sw_disk.specs.Folder.{File, Folder, all_changed}
@@ -71,6 +71,13 @@ pub record Crashes (before : NodesModel) (device : ℕ) (msg : Msg) (calls pick 
 abbrev pub fused : ℕ → MemNode → MemNode
 fused calls node = record node { disk = record node.disk { last = Some (min (node.disk.calls + max calls 1) last_count) } }
 
+-- Whether a handling that replied so was cut short by its fuse, or was done: memory was there, and the disk failed only where its calls were
+-- used up.
+abbrev pub cut_of : Reply → (is_used_up : Bool) → Bool
+cut_of NoMemory is_used_up = false
+cut_of DiskFault is_used_up = is_used_up
+cut_of other is_used_up = true
+
 -- A node handled a message over a disk with such a fuse, the disk lost power, and the node is due for a mount.
 pub record IsCrashedNode (cluster : ClusterModel) (msg : Msg) (calls pick : ℕ) (is_cut : Bool) (old new : MemNode) : Type 0 where
   pub reply : Reply
@@ -78,9 +85,7 @@ pub record IsCrashedNode (cluster : ClusterModel) (msg : Msg) (calls pick : ℕ)
   pub handles : HandlesWhenMounted seen_of LeftBy cluster msg reply (fused calls old) between
   pub new_is : new ≡ record between { disk = crashed pick between.disk; is_due = true }
   pub is_node : IsNode cluster seen_of new
-  -- where it tells of no want, memory was there, and a failure is that of the fuse
-  pub memory : is_cut ≡ true → reply ≢ NoMemory
-  pub used_up : is_cut ≡ true → reply ≡ DiskFault → old.disk.calls + max calls 1 < between.disk.calls
+  pub cut_is : is_cut ≡ cut_of reply (nat_lt (old.disk.calls + max calls 1) between.disk.calls)
 
 -- that is one of these nodes, and the others are as they were
 pub record IsCrashedAt (cluster : ClusterModel) (place : ℕ) (msg : Msg) (calls pick : ℕ) (is_cut : Bool) (before after : List MemNode) : Type 0 where
@@ -89,3 +94,14 @@ pub record IsCrashedAt (cluster : ClusterModel) (place : ℕ) (msg : Msg) (calls
   pub at : slice_get before place ≡ Some old
   pub crashes : IsCrashedNode cluster msg calls pick is_cut old new
   pub others : after ≡ slice_set before place new
+
+-- Memory was wanted for a crash: the node of the device was not cut short, since it replied so, or its disk failed though its calls were not
+-- used up.
+pub record WantsWithin (before : NodesModel) (device : ℕ) (msg : Msg) (calls pick : ℕ) (after : NodesModel) : Type 0 where
+  pub place : ℕ
+  pub crashed : IsCrashedAt before.cluster place msg calls pick false before.nodes after.nodes
+  pub mine : crashed.old.device ≡ device
+
+-- or it was wanted for the list of the devices that are down, and nothing else was done
+abbrev pub WantsMemory : NodesModel → (device : ℕ) → Msg → (calls pick : ℕ) → (after : NodesModel) → Type 0
+WantsMemory before device msg calls pick after = (after ≡ record before { is_wanting = true }) ⊎ WantsWithin before device msg calls pick after

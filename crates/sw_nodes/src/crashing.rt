@@ -1,11 +1,10 @@
 //! A node whose device loses power within the handling of a message.
 
-ghost use Rattle.std.specs.Prelude.{◌≡◌, ◌≢◌, true};
+ghost use Rattle.std.specs.Prelude.{◌≡◌};
 ghost use Rattle.sw_memdisk.specs.Memory.{seen_of};
 ghost use Rattle.sw_message.specs.Message.{IsPlaceOf, place_in};
-ghost use Rattle.sw_message.specs.declared.reply.Reply.TheVariants.{DiskFault, NoMemory};
 ghost use Rattle.sw_objsrv.specs.Node.{IsNode};
-ghost use Rattle.sw_nodes.specs.Crashing.{IsCrashedNode};
+ghost use Rattle.sw_nodes.specs.Crashing.{IsCrashedNode, cut_of};
 
 use std::alloc::Global;
 use sw_memdisk::MemDisk;
@@ -37,10 +36,9 @@ pub(crate) fn crash_within(
     is_cut(&reply, begun.saturating_add(calls) < ended)
 }
 
-// Whether a reply tells of no want of memory: a disk fails only where its calls were used up.
+// Whether a handling that replied so was cut short, or was done.
 fn is_cut(reply: &Reply, is_used_up: bool) -> bool
-    ensures memory { result ≡ true → reply.now ≢ NoMemory }
-    ensures used_up { result ≡ true → reply.now ≡ DiskFault → is_used_up ≡ true }
+    ensures { result ≡ cut_of reply.now is_used_up }
 {
     match reply {
         Reply::NoMemory => false,

@@ -9,7 +9,7 @@ ghost use Rattle.sw_message.specs.Message.{IsMember, IsPlaceOf, place_in};
 ghost use Rattle.sw_objsrv.specs.Handling.{folders_of};
 ghost use Rattle.sw_objsrv.specs.Mounting.{fault_of};
 ghost use Rattle.sw_objsrv.specs.Node.{IsNode};
-ghost use Rattle.sw_nodes.specs.Crashing.{Crashes, IsCrashedAt};
+ghost use Rattle.sw_nodes.specs.Crashing.{Crashes, IsCrashedAt, WantsMemory};
 ghost use Rattle.sw_nodes.specs.Nodes.{Calls, IsHandledAt, IsRemountedAt, IsSettledDisk, Loses, MemNode, Restarts, Stops, devices_of, is_want, node_of};
 
 use crate::crashing::crash_within;
@@ -134,6 +134,7 @@ impl<'a> Nodes<'a> {
         requires goes_on { self.old.is_wanting ≡ false }
         ensures crashes { OnOk result (Crashes self.old device msg.now calls pick self.new) }
         ensures wants { OnErr result (self.new.is_wanting ≡ true) }
+        ensures cause { OnErr result (WantsMemory self.old device msg.now calls pick self.new) }
         ensures cluster { self.new.cluster ≡ self.old.cluster }
     {
         let place = self.place_of(device).unwrap();

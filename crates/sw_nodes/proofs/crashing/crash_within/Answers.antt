@@ -1,11 +1,10 @@
 use Rattle.std.proofs.Common.{◌≡◌, ℕ, ◌+◌, max, min, Some, true, ap, sym, subst, ◌∙◌, arith}
-use Rattle.std.proofs.lemmas.Bool.{ltb-true}
 use Rattle.sw_words.specs.Counts.{last_count}
 use Rattle.sw_memdisk.specs.Memory.{LeftBy, MemDiskModel, crashed, seen_of}
 use Rattle.sw_objsrv.specs.Node.{HandlesWhenMounted, IsNode}
-use Rattle.sw_nodes.specs.Crashing.{fused}
+use Rattle.sw_nodes.specs.Crashing.{cut_of, fused}
 use Rattle.sw_nodes.specs.Nodes.{MemNode}
-use Rattle.sw_nodes.proofs.Fuses.{due_node, fused_node}
+use Rattle.sw_nodes.proofs.Fuses.{due_node, fused_node, used_up}
 use Rattle.sw_nodes.proofs.crashing.crash_within.Goals as goal
 
 -- the disk that handles the message has the fuse
@@ -31,10 +30,9 @@ returns c =
           (has_fuse c.args.node.now c.args.calls c.max-calls.result c.disk_mut.result.now c.fuse.new.self c.disk_mut.ensures.value c.max-calls.ensures c.fuse.ensures) c.handle-reply.ensures.handles;
       new_is = is;
       is_node = subst (IsNode c.args.cluster.now seen_of) (sym is) (due_node c.args.cluster.now between (crashed c.args.pick between.disk) c.handle-reply.ensures.node);
-      memory = c.is_cut.ensures.memory;
-      used_up = λ cut fault.
-          let less = ltb-true c.saturating_add.result c.calls-ended.result (c.is_cut.ensures.used_up cut fault) in
+      cut_is =
           let begun : c.calls-begun.result ≡ c.args.node.now.disk.calls = c.calls-begun.ensures ∙ ap (λ (disk : MemDiskModel). disk.calls) c.disk.ensures in
           let ended : c.calls-ended.result ≡ between.disk.calls = c.calls-ended.ensures ∙ ap (λ (disk : MemDiskModel). disk.calls) c.disk-2.ensures in
-          omega (arith, less, begun, ended, c.max-calls.ensures, c.saturating_add.ensures);
+          c.is_cut.ensures
+          ∙ ap (cut_of c.handle-reply.result) (used_up c.args.node.now.disk.calls c.args.calls between.disk.calls c.saturating_add.result c.calls-ended.result (omega (arith, begun, c.max-calls.ensures, c.saturating_add.ensures)) ended (omega arith));
     }
