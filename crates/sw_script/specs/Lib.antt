@@ -1,4 +1,3 @@
 pub mod Cut
 pub mod Line
-pub mod Reading
 pub mod Word

@@ -9,9 +9,9 @@ use Rattle.sw_script.specs.declared.event.Event.TheVariants.{All, Crash, Deliver
 use Rattle.sw_script.specs.declared.event.Job.{Job}
 use Rattle.sw_script.specs.declared.event.Job.TheVariants.{Delete, Get, Head, Put, Recon}
 use Rattle.sw_script.specs.declared.fault.LineFault.{LineFault}
-use Rattle.sw_script.specs.declared.fault.LineFault.TheVariants.{BadHex, BadName, BadNumber, Form, NoDevice, NoMessage, NoOperation, TooLong}
+use Rattle.sw_script.specs.declared.fault.LineFault.TheVariants.{BadHex, BadName, BadNumber, Form, NoDevice, NoMemory, NoMessage, NoOperation, TooLong}
 
--- the number that is printed for a fault of a line
+-- the number that is printed for a fault of a line; want of memory is printed by none
 abbrev pub line_fault_number : LineFault → ℕ
 line_fault_number Form = 1
 line_fault_number BadNumber = 2
@@ -21,6 +21,7 @@ line_fault_number TooLong = 5
 line_fault_number NoMessage = 6
 line_fault_number NoDevice = 7
 line_fault_number NoOperation = 8
+line_fault_number NoMemory = 0
 
 -- the greatest number of bytes of a line, without its end
 abbrev pub greatest_line : ℕ

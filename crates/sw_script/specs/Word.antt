@@ -49,10 +49,6 @@ parts_of text =
       object = after_first (λ byte. byte == 47) rest;
     }
 
--- the greatest number of bytes of a name's parts and of the slashes between them
-abbrev pub greatest_text : ℕ
-greatest_text = 1538
-
 abbrev pub sound_name : NameModel → Option NameModel
 sound_name name = if is_none (name_fault name) then Some name else None
 

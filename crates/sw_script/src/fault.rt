@@ -1,9 +1,11 @@
-//! Why a line tells nothing, or is not read.
+//! Why a line tells nothing.
 
 ghost use Rattle.std.specs.Prelude.{◌≡◌};
 ghost use Rattle.sw_script.specs.Line.{line_fault_number};
-ghost use Rattle.sw_script.specs.declared.fault.ReadFault.TheVariants.{Line as OfLine};
+ghost use Rattle.sw_script.specs.declared.fault.LineFault.TheVariants.{NoMemory as WantOfMemory};
 
+use std::alloc::AllocError;
+use sw_types::NoMemory;
 use thiserror::Error;
 
 /// The first fault of a line, in the order in which they are tried. Those of messages, devices and operations are found in a world.
@@ -33,10 +35,12 @@ pub enum LineFault {
     /// No operation has a number.
     #[error("no such operation")]
     NoOperation,
+    #[error("out of memory")]
+    NoMemory,
 }
 
 impl LineFault {
-    /// The number that is printed.
+    /// The number that is printed. Want of memory has none, and answers 0.
     pub fn number(self) -> u8
         ensures { result ≡ line_fault_number self }
     {
@@ -49,36 +53,23 @@ impl LineFault {
             LineFault::NoMessage => 6,
             LineFault::NoDevice => 7,
             LineFault::NoOperation => 8,
+            LineFault::NoMemory => 0,
         }
     }
 }
 
-/// What an event whose reading takes memory asks of a world.
-#[derive(Clone, Copy, Debug, PartialEq, Eq)]
-pub enum Asks {
-    /// Nothing that it may lack.
-    Nothing,
-    /// A stamp that is left to draw.
-    Stamp,
-    /// The device of this number.
-    Device(u64),
+impl From<NoMemory> for LineFault {
+    ghost from_gives = { λ _ fault. fault ≡ WantOfMemory };
+
+    fn from(_refused: NoMemory) -> LineFault {
+        LineFault::NoMemory
+    }
 }
 
-/// Why a line is not read.
-#[derive(Clone, Copy, Debug, PartialEq, Eq, Error)]
-pub enum ReadFault {
-    /// It has this fault.
-    #[error("a faulty line")]
-    Line(LineFault),
-    /// Memory was wanted for its event, which asks for this.
-    #[error("out of memory")]
-    NoMemory(Asks),
-}
+impl From<AllocError> for LineFault {
+    ghost from_gives = { λ _ fault. fault ≡ WantOfMemory };
 
-impl From<LineFault> for ReadFault {
-    ghost from_gives = { λ fault read. read ≡ OfLine fault };
-
-    fn from(fault: LineFault) -> ReadFault {
-        ReadFault::Line(fault)
+    fn from(_refused: AllocError) -> LineFault {
+        LineFault::NoMemory
     }
 }

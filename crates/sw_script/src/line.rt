@@ -15,9 +15,9 @@ pub const GREATEST_LINE: usize = 65_536;
 
 impl Event {
     /// The event that a line tells, without the line's end: none where it is empty or begins with `#`.
-    pub fn read(alloc: Global, line: &[u8]) -> Result<Option<Event>, ReadFault>
+    pub fn read(alloc: Global, line: &[u8]) -> Result<Option<Event>, LineFault>
         ensures read { IfOk result (λ event. event_of line.now ≡ Ok event) }
-        ensures fault { IfErr result (IsUnread LineAsks (event_of line.now)) }
+        ensures fault { IfErr result (λ fault. UnlessMemory LineFault.NoMemory fault (event_of line.now ≡ Err fault)) }
     {
         if line.len() > GREATEST_LINE {
             return Err(LineFault::TooLong);
@@ -50,10 +50,10 @@ fn words(alloc: Global, line: &[u8]) -> Result<Vec<&[u8]>, AllocError>
 }
 
 // The event of a line that is neither empty nor a comment, by its words.
-fn read_event(alloc: Global, words: &[&[u8]]) -> Result<Event, ReadFault>
+fn read_event(alloc: Global, words: &[&[u8]]) -> Result<Event, LineFault>
     requires { All (λ word. length word ≤ greatest_line) (map (λ word. word.now) words.now) }
     ensures read { IfOk result (λ event. event_by (map (λ word. word.now) words.now) ≡ Ok event) }
-    ensures fault { IfErr result (IsUnread EventAsks (event_by (map (λ word. word.now) words.now))) }
+    ensures fault { IfErr result (λ fault. UnlessMemory LineFault.NoMemory fault (event_by (map (λ word. word.now) words.now) ≡ Err fault)) }
 {
     let Some((verb, rest)) = words.split_first() else {
         return Err(LineFault::Form);
@@ -66,10 +66,10 @@ fn read_event(alloc: Global, words: &[&[u8]]) -> Result<Event, ReadFault>
 }
 
 // The event of words that do not begin with `start`.
-fn read_other_event(alloc: Global, words: &[&[u8]]) -> Result<Event, ReadFault>
+fn read_other_event(alloc: Global, words: &[&[u8]]) -> Result<Event, LineFault>
     requires { All (λ word. length word ≤ greatest_line) (map (λ word. word.now) words.now) }
     ensures read { IfOk result (λ event. other_event (map (λ word. word.now) words.now) ≡ Ok event) }
-    ensures fault { IfErr result (IsUnread EventAsks (other_event (map (λ word. word.now) words.now))) }
+    ensures fault { IfErr result (λ fault. UnlessMemory LineFault.NoMemory fault (other_event (map (λ word. word.now) words.now) ≡ Err fault)) }
 {
     if words.len() == 1 {
         return read_lone_word(words[0]);
@@ -96,9 +96,9 @@ fn read_lone_word(word: &[u8]) -> Result<Event, LineFault>
     }
 }
 
-fn read_short_event(alloc: Global, verb: &[u8], word: &[u8]) -> Result<Event, ReadFault>
+fn read_short_event(alloc: Global, verb: &[u8], word: &[u8]) -> Result<Event, LineFault>
     ensures read { IfOk result (λ event. short_event verb.now word.now ≡ Ok event) }
-    ensures fault { IfErr result (IsUnread EventAsks (short_event verb.now word.now)) }
+    ensures fault { IfErr result (λ fault. UnlessMemory LineFault.NoMemory fault (short_event verb.now word.now ≡ Err fault)) }
 {
     if verb == b"msg".as_slice() {
         return Ok(Event::Deliver(read_number(word)?));
@@ -112,9 +112,9 @@ fn read_short_event(alloc: Global, verb: &[u8], word: &[u8]) -> Result<Event, Re
     read_device_event(alloc, verb, word)
 }
 
-fn read_device_event(alloc: Global, verb: &[u8], word: &[u8]) -> Result<Event, ReadFault>
+fn read_device_event(alloc: Global, verb: &[u8], word: &[u8]) -> Result<Event, LineFault>
     ensures read { IfOk result (λ event. device_event verb.now word.now ≡ Ok event) }
-    ensures fault { IfErr result (IsUnread EventAsks (device_event verb.now word.now)) }
+    ensures fault { IfErr result (λ fault. UnlessMemory LineFault.NoMemory fault (device_event verb.now word.now ≡ Err fault)) }
 {
     if verb == b"stop".as_slice() {
         return Ok(Event::Stop(read_number(word)?));
@@ -133,10 +133,10 @@ fn read_longer_event(
     verb: &[u8],
     first: &[u8],
     second: &[u8],
-) -> Result<Event, ReadFault>
+) -> Result<Event, LineFault>
     requires { length second.now ≤ greatest_line }
     ensures read { IfOk result (λ event. longer_event verb.now first.now second.now ≡ Ok event) }
-    ensures fault { IfErr result (IsUnread EventAsks (longer_event verb.now first.now second.now)) }
+    ensures fault { IfErr result (λ fault. UnlessMemory LineFault.NoMemory fault (longer_event verb.now first.now second.now ≡ Err fault)) }
 {
     if verb == b"show".as_slice() {
         let device = read_number(first)?;
@@ -164,10 +164,10 @@ fn read_crash(verb: &[u8], message: &[u8], calls: &[u8], pick: &[u8]) -> Result<
 }
 
 // The job of some words.
-fn read_job(alloc: Global, words: &[&[u8]]) -> Result<Job, ReadFault>
+fn read_job(alloc: Global, words: &[&[u8]]) -> Result<Job, LineFault>
     requires { All (λ word. length word ≤ greatest_line) (map (λ word. word.now) words.now) }
     ensures read { IfOk result (λ job. job_by (map (λ word. word.now) words.now) ≡ Ok job) }
-    ensures fault { IfErr result (IsUnread JobAsks (job_by (map (λ word. word.now) words.now))) }
+    ensures fault { IfErr result (λ fault. UnlessMemory LineFault.NoMemory fault (job_by (map (λ word. word.now) words.now) ≡ Err fault)) }
 {
     if words.len() == 2 {
         return read_named_job(alloc, words[0], words[1]);
@@ -178,9 +178,9 @@ fn read_job(alloc: Global, words: &[&[u8]]) -> Result<Job, ReadFault>
     Err(LineFault::Form)
 }
 
-fn read_named_job(alloc: Global, verb: &[u8], word: &[u8]) -> Result<Job, ReadFault>
+fn read_named_job(alloc: Global, verb: &[u8], word: &[u8]) -> Result<Job, LineFault>
     ensures read { IfOk result (λ job. named_job verb.now word.now ≡ Ok job) }
-    ensures fault { IfErr result (IsUnread JobAsks (named_job verb.now word.now)) }
+    ensures fault { IfErr result (λ fault. UnlessMemory LineFault.NoMemory fault (named_job verb.now word.now ≡ Err fault)) }
 {
     if verb == b"get".as_slice() {
         return Ok(Job::Get(read_name(alloc, word)?));
@@ -199,10 +199,10 @@ fn read_longer_job(
     verb: &[u8],
     first: &[u8],
     second: &[u8],
-) -> Result<Job, ReadFault>
+) -> Result<Job, LineFault>
     requires { length second.now ≤ greatest_line }
     ensures read { IfOk result (λ job. longer_job verb.now first.now second.now ≡ Ok job) }
-    ensures fault { IfErr result (IsUnread JobAsks (longer_job verb.now first.now second.now)) }
+    ensures fault { IfErr result (λ fault. UnlessMemory LineFault.NoMemory fault (longer_job verb.now first.now second.now ≡ Err fault)) }
 {
     if verb == b"put".as_slice() {
         let name = read_name(alloc, first)?;

@@ -1,49 +1,30 @@
 //! The name of an object that a word spells.
 
-ghost use Rattle.std.specs.Prelude.{◌≡◌, ◌<◌, IfOk, IsSome, MatchOption, OnErr, length};
-ghost use Rattle.percent_encoding.specs.Percent.{percent_decode};
-ghost use Rattle.sw_script.specs.Word.{begins_with_digits, greatest_text, has_whole_escapes, name_of, parts_of};
+ghost use Rattle.std.specs.Prelude.{◌≡◌, None, Some, IfErr, IfOk};
+ghost use Rattle.sw_words.specs.Memory.{UnlessMemory};
+ghost use Rattle.sw_script.specs.Word.{begins_with_digits, has_whole_escapes, name_of, parts_of};
 
-use crate::cut_at;
-use arrayvec::ArrayVec;
+use crate::{LineFault, cut_at};
 use percent_encoding::percent_decode;
 use std::alloc::Global;
-use sw_types::{Name, NameFault, NoMemory};
+use sw_types::{Name, NameFault};
 
-// The greatest number of bytes of a name's parts and of the slashes between them.
-const GREATEST_TEXT: usize = 1_538;
-
-/// The name that a word spells, if it does. Memory is wanted only where there is one.
-pub(crate) fn read_name(alloc: Global, word: &[u8]) -> Result<Option<Name>, NoMemory>
-    ensures read { IfOk result (λ name. name ≡ name_of word.now) }
-    ensures memory { OnErr result (IsSome (name_of word.now)) }
+/// The name that a word spells.
+pub(crate) fn read_name(alloc: Global, word: &[u8]) -> Result<Name, LineFault>
+    ensures read { IfOk result (λ name. name_of word.now ≡ Some name) }
+    ensures fault { IfErr result (λ fault. UnlessMemory LineFault.NoMemory fault ((name_of word.now ≡ None) × (fault ≡ LineFault.BadName))) }
 {
     if !has_whole_escapes(word) {
-        return Ok(None);
+        return Err(LineFault::BadName);
     }
-    let Some(text) = decoded(word) else {
-        return Ok(None);
-    };
-    let (account, container, object) = parts(text.as_slice());
+    let mut text = Vec::new(alloc);
+    percent_decode(word).append_to(&mut text)?;
+    let (account, container, object) = parts(&text);
     match Name::make(alloc, account, container, object) {
-        Ok(name) => Ok(Some(name)),
-        Err(NameFault::NoMemory) => Err(NoMemory),
-        Err(_) => Ok(None),
+        Ok(name) => Ok(name),
+        Err(NameFault::NoMemory) => Err(LineFault::NoMemory),
+        Err(_) => Err(LineFault::BadName),
     }
-}
-
-// What a word spells, its escapes replaced by their bytes, unless that is longer than any name.
-fn decoded(word: &[u8]) -> Option<ArrayVec<u8, GREATEST_TEXT>>
-    ensures { MatchOption result (greatest_text < length (percent_decode word.now)) (λ text. text.items ≡ percent_decode word.now) }
-{
-    let mut text = ArrayVec::new();
-    for byte in percent_decode(word) {
-        if text.is_full() {
-            return None;
-        }
-        text.push(byte);
-    }
-    Some(text)
 }
 
 // Whether each percent sign is followed by two hexadecimal digits.

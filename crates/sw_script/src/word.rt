@@ -1,14 +1,13 @@
 //! What a word of a line spells.
 
-ghost use Rattle.std.specs.Prelude.{◌≡◌, ◌≤◌, None, Some, IfOk, IsSome, MatchResult, OnErr, is_some, length};
-ghost use Rattle.hex.specs.Hex.{is_hex_digit};
-ghost use Rattle.sw_types.specs.Hex.{bytes_of_hex};
+ghost use Rattle.std.specs.Prelude.{◌≡◌, ◌≤◌, None, Some, IfErr, IfOk, MatchResult, length};
+ghost use Rattle.sw_words.specs.Memory.{UnlessMemory};
 ghost use Rattle.sw_script.specs.Line.{greatest_line};
 ghost use Rattle.sw_script.specs.Word.{number_of, object_in, script_head, stamp_of};
 
 use crate::LineFault;
 use std::alloc::Global;
-use sw_types::{Head, NoMemory, Object, Stamp, read_decimal, read_hex};
+use sw_types::{Head, HexFault, NoMemory, Object, Stamp, read_decimal, read_hex};
 
 /// The number that a word spells.
 pub(crate) fn read_number(word: &[u8]) -> Result<u64, LineFault>
@@ -34,40 +33,22 @@ pub(crate) fn read_stamp(word: &[u8]) -> Result<Stamp, LineFault>
     }
 }
 
-/// The object whose body a word spells in hex, if it does. A word is never too long for a body. Memory is wanted only where there is one.
-pub(crate) fn read_object(alloc: Global, word: &[u8]) -> Result<Option<Object>, NoMemory>
+/// The object whose body a word spells in hex. A word is never too long for a body.
+pub(crate) fn read_object(alloc: Global, word: &[u8]) -> Result<Object, LineFault>
     requires { length word.now ≤ greatest_line }
-    ensures read { IfOk result (λ object. object ≡ object_in word.now) }
-    ensures memory { OnErr result (IsSome (object_in word.now)) }
+    ensures read { IfOk result (λ object. object_in word.now ≡ Some object) }
+    ensures fault { IfErr result (λ fault. UnlessMemory LineFault.NoMemory fault ((object_in word.now ≡ None) × (fault ≡ LineFault.BadHex))) }
 {
-    if !is_hex(word) {
-        return Ok(None);
-    }
-    let Ok(body) = read_hex(alloc, word) else {
-        return Err(NoMemory);
+    let body = match read_hex(alloc, word) {
+        Ok(body) => body,
+        Err(HexFault::Bad) => return Err(LineFault::BadHex),
+        Err(HexFault::NoMemory) => return Err(LineFault::NoMemory),
     };
     let head = script_head(alloc)?;
     match Object::make(head, body) {
-        Ok(object) => Ok(Some(object)),
+        Ok(object) => Ok(object),
         Err(_) => unreachable!(),
     }
-}
-
-// Whether a word spells bytes in hex.
-fn is_hex(word: &[u8]) -> bool
-    ensures { result ≡ is_some (bytes_of_hex word.now) }
-{
-    if word.len() < 2 {
-        return word == b"-".as_slice();
-    }
-    word.len() % 2 == 0 && word.iter().all(|byte| is_hex_digit(*byte))
-}
-
-// Whether a byte is a hexadecimal digit.
-fn is_hex_digit(byte: u8) -> bool
-    ensures { result ≡ is_hex_digit byte }
-{
-    char::from(byte).is_digit(16)
 }
 
 // The head of each object that a script puts. It breaks no rule.
