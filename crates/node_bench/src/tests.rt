@@ -1,4 +1,5 @@
-//! Messages to a primary and to a handoff, a full disk, what is mounted, and bytes that are not the archive.
+//! Messages to a primary and to a handoff, a folder of many names, a full disk, what is mounted, and bytes that are not the
+//! archive.
 
 use crate::object::{Request, archive, put_frag, stamp};
 use crate::server::Server;
@@ -8,10 +9,11 @@ use std::alloc::Global;
 use std::process::Abort;
 use std::test::Fail;
 use sw_disk::Disk;
+use sw_hashdir::Entry;
 use sw_hashpath::Place;
 use sw_memdisk::MemDisk;
-use sw_message::Msg;
-use sw_types::{Bytes, Name, Policy};
+use sw_message::{Msg, Reply};
+use sw_types::{Bytes, Name, Policy, Stamp};
 
 // The hash of the object's place.
 const HASH: [u8; 16] = [
@@ -143,6 +145,62 @@ const HANDOFF: [(Request, &str); 16] = [
 fn answers_as_a_handoff(rt: HostRuntime) -> Result<(), Fail> {
     let mut server = fresh(rt.alloc(), 3, 1 << 20)?;
     expect_all(&rt, &mut server, &HANDOFF)?;
+    Ok(())
+}
+
+// A folder has so many archives and as many tombstones. A handoff keeps them all.
+const PAIRS: u32 = 1_500;
+
+// The archive of index 0 of a pair, which is not durable, and the stamp of its tombstone.
+fn pair(number: u32) -> (Entry, Stamp) {
+    let later = number.saturating_mul(2);
+    let archive = Entry {
+        stamp: stamp(later),
+        index: 0,
+        durable: false,
+    };
+    (archive, stamp(later.saturating_add(1)))
+}
+
+// Stores them.
+fn store_pair(alloc: Global, server: &mut Server, number: u32) -> Result<()> {
+    let later = number.saturating_mul(2);
+    let stored = Request::PutFrag(later, 0).tell(alloc, server)?;
+    ensure!(stored.as_str() == "synced", "no archive is stored");
+    let buried = Request::Delete(later.saturating_add(1)).tell(alloc, server)?;
+    ensure!(buried.as_str() == "deleted no", "no tombstone is stored");
+    Ok(())
+}
+
+// An Ask lists each pair, and nothing else.
+fn expect_pairs(rt: &(impl Abort + AllocGlobal), server: &mut Server) -> Result<()> {
+    let ask = Request::Ask.message(rt.alloc(), server.cluster())?;
+    let Reply::Held(listing) = server.answer(rt.alloc(), &ask)? else {
+        bail!("nothing is listed");
+    };
+    assert_eq!(rt; listing.entries().len(), PAIRS as usize);
+    assert_eq!(rt; listing.tombstones().len(), PAIRS as usize);
+    let listed = listing.entries().iter().zip(listing.tombstones());
+    for (number, (archive, tombstone)) in (0..PAIRS).zip(listed) {
+        assert_eq!(rt; (*archive, *tombstone), pair(number));
+    }
+    Ok(())
+}
+
+// As a folder grows, no answer comes to be want of memory, and neither does a mount. A primary keeps the last name alone.
+#[test]
+fn lists_each_of_three_thousand_names(rt: HostRuntime) -> Result<(), Fail> {
+    let alloc = rt.alloc();
+    let mut server = fresh(alloc, 3, 1 << 20)?;
+    for number in 0..PAIRS {
+        store_pair(alloc, &mut server, number)?;
+    }
+    expect_pairs(&rt, &mut server)?;
+    let mut server = Server::start(alloc, 3, server.stop())?;
+    expect_pairs(&rt, &mut server)?;
+    let mut server = Server::start(alloc, 0, server.stop())?;
+    let last = [(Request::Ask, "held (1000000000.02999 tombstone)")];
+    expect_all(&rt, &mut server, &last)?;
     Ok(())
 }
 
