@@ -21,11 +21,11 @@ use Rattle.sw_claim.proofs.Floors.{floor_of}
 -- ---- what is below a floor
 
 -- a number is less than another, or not
-less_or_not : (a b : ℕ) → OrNot (a < b)
+pub less_or_not : (a b : ℕ) → OrNot (a < b)
 less_or_not a b = ⊎_elim (λ less. inl less) (λ upto. inr (λ less. omega (arith, less, upto))) (cases_lt a b)
 
 -- a floor is a tombstone, or not
-tombstone_or_not : (k : FloorKind) → OrNot (k ≡ kind.Tombstone)
+pub tombstone_or_not : (k : FloorKind) → OrNot (k ≡ kind.Tombstone)
 tombstone_or_not kind.Tombstone = inl refl
 tombstone_or_not kind.Durable = inr (λ same. absurd (cc))
 
@@ -35,7 +35,7 @@ below_or_not floor (Data stamp index durable) = either (less_or_not stamp floor.
 below_or_not floor (Tombstone stamp) = less_or_not stamp floor.stamp
 
 -- or below that of the names
-below_floor_or_not : (names : List FileName) (name : FileName) (floor : Option Floor) → IsFloor names floor → OrNot (IsBelowFloor names name)
+pub below_floor_or_not : (names : List FileName) (name : FileName) (floor : Option Floor) → IsFloor names floor → OrNot (IsBelowFloor names name)
 below_floor_or_not names name None none = inr (λ below. none below.0 below.1.0)
 below_floor_or_not names name (Some floor) is = ⊎_elim
     (λ below. inl (floor, is, below))
@@ -45,7 +45,7 @@ below_floor_or_not names name (Some floor) is = ⊎_elim
 -- ---- what is obsolete
 
 -- a device is a primary, or not
-primary_or_not : (primary : Bool) → OrNot (primary ≡ true)
+pub primary_or_not : (primary : Bool) → OrNot (primary ≡ true)
 primary_or_not true = inl refl
 primary_or_not false = inr (λ same. absurd (cc))
 
