@@ -14,7 +14,7 @@ use Rattle.sw_core.specs.Event.{Proceeds, idle, with_scene}
 use Rattle.sw_core.specs.Operating.{IsGetOf}
 use Rattle.sw_core.specs.World.{Operating, World, numbered}
 use Rattle.sw_core.proofs.Numbered.{replaced-cases}
-use Rattle.sw_events.proofs.Disks.{disk_here, disk_there}
+use Rattle.sw_scene.proofs.Disks.{disk_here, disk_there}
 use Rattle.sw_alone.proofs.Handed.{Reads, hands_reads}
 use Rattle.sw_alone.proofs.Shown.{Tells, tells_on}
 use Rattle.sw_alone.proofs.Steps.{read_only}

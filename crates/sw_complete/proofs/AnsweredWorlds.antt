@@ -18,7 +18,7 @@ use Rattle.sw_core.specs.Event.{Begins, Proceeds, begins, idle, with_scene}
 use Rattle.sw_core.specs.Operating.{Begun}
 use Rattle.sw_core.specs.World.{Operating, Rests, World, numbered, with_numbered}
 use Rattle.sw_core.proofs.Numbered.{pushed-last}
-use Rattle.sw_events.proofs.Disks.{disk_here, disk_there}
+use Rattle.sw_scene.proofs.Disks.{disk_here, disk_there}
 use Rattle.sw_complete.proofs.AnsweredSteps.{IsAnswered, handed_answered, told_answered}
 
 -- another item of a number is that of the number

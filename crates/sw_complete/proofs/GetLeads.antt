@@ -29,7 +29,7 @@ use Rattle.sw_core.specs.Operating.{Begun, Get as GetBegun, Head as HeadBegun}
 use Rattle.sw_core.specs.Sound.{IsSoundWorld}
 use Rattle.sw_core.specs.World.{Operating, World, numbered}
 use Rattle.sw_core.proofs.Numbered.{numbered-contains, numbered-within, pushed-cases, replaced-cases}
-use Rattle.sw_events.proofs.Disks.{disk_here, disk_there}
+use Rattle.sw_scene.proofs.Disks.{disk_here, disk_there}
 use Rattle.sw_events.proofs.Next.{no-answer}
 use Rattle.sw_alone.specs.Alone.{AGet, AHead, Delivers, GivesUp, IsOf, IsOwnEvent, IsReading, LeadsAlone}
 use Rattle.sw_alone.proofs.Beginning.{get_in}

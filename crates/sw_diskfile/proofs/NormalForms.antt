@@ -24,7 +24,7 @@ below_or_not floor (Data stamp index durable) = either (less_or_not stamp floor.
 below_or_not floor (Tombstone stamp) = less_or_not stamp floor.stamp
 
 -- or below that of the names
-below_floor_or_not : (names : List FileName) (name : FileName) (floor : Option Floor) → IsFloor names floor → OrNot (IsBelowFloor names name)
+pub below_floor_or_not : (names : List FileName) (name : FileName) (floor : Option Floor) → IsFloor names floor → OrNot (IsBelowFloor names name)
 below_floor_or_not names name None none = inr (λ below. none below.0 below.1.0)
 below_floor_or_not names name (Some floor) is = ⊎_elim
     (λ below. inl (floor, is, below))
@@ -34,7 +34,7 @@ below_floor_or_not names name (Some floor) is = ⊎_elim
 -- ---- what is obsolete
 
 -- a device is a primary, or not
-primary_or_not : (primary : Bool) → OrNot (primary ≡ true)
+pub primary_or_not : (primary : Bool) → OrNot (primary ≡ true)
 primary_or_not true = inl refl
 primary_or_not false = inr (λ same. absurd (cc))
 

@@ -9,7 +9,7 @@ use Rattle.sw_scene.specs.Scene.{Answer, Mail, Request, Scene, is_up}
 use Rattle.sw_core.specs.Event.{Comes, Crash, CrashMount, Delete, Deliver, Event, Fault, Get, GiveUp, Happens, Head, IsTold, Job, Lose, OnRequest, OnScene, Proceeds, Put, Recon, Restart, SetClock, Start, Starts, Stop, idle}
 use Rattle.sw_core.specs.World.{Operating, World, numbered}
 use Rattle.sw_core.proofs.Numbered.{numbered-contains}
-use Rattle.sw_events.specs.SceneMove.{Crashed, CrashedMounting, DeviceMove, Failed, Handled, Lost, NotesDelete, NotesNothing, NotesPut, Passed, Restarted, Stopped}
+use Rattle.sw_scene.specs.SceneMove.{Crashed, CrashedMounting, DeviceMove, Failed, Handled, Lost, NotesDelete, NotesNothing, NotesPut, Passed, Restarted, Stopped}
 use Rattle.sw_events.specs.WorldMove.{Answered, Began, GaveUp, Moved, WorldMove}
 
 module _ (world after : World) where

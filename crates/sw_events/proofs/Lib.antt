@@ -1,5 +1,4 @@
 pub mod Carried
-pub mod Disks
 pub mod Happened
 pub mod Leads
 pub mod Next

@@ -1,2 +1,1 @@
-pub mod SceneMove
 pub mod WorldMove

@@ -7,7 +7,7 @@ use Rattle.sw_scene.specs.Scene.{Answer, Scene}
 use Rattle.sw_core.specs.Event.{Begins, Proceeds}
 use Rattle.sw_core.specs.Operating.{Begun}
 use Rattle.sw_core.specs.World.{Operating, World, numbered}
-use Rattle.sw_events.specs.SceneMove.{DeviceMove, Notes}
+use Rattle.sw_scene.specs.SceneMove.{DeviceMove, Notes}
 
 pub data WorldMove (before : World) : World → Type 0 where
   -- no operation goes on; the clock shows what it did, or is set

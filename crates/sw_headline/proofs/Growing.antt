@@ -13,9 +13,10 @@ use Rattle.sw_core.specs.Event.{Event, IsRun, Lead}
 use Rattle.sw_core.specs.Sound.{IsSoundWorld}
 use Rattle.sw_core.specs.World.{World}
 use Rattle.sw_core.proofs.Happening.{run-sound}
-use Rattle.sw_events.specs.SceneMove.{Asked, AtDevice, Crashed, CrashedMounting, DeviceMove, Failed, Handled, Lost, Passed, Restarted, SceneMove, Stopped}
+use Rattle.sw_scene.proofs.Moved.{noted-mail}
+use Rattle.sw_scene.specs.SceneMove.{Asked, AtDevice, Crashed, CrashedMounting, DeviceMove, Failed, Handled, Lost, Passed, Restarted, SceneMove, Stopped}
 use Rattle.sw_events.proofs.Carried.{carried}
-use Rattle.sw_events.proofs.SceneMoves.{noted-mail, scene-moves}
+use Rattle.sw_events.proofs.SceneMoves.{scene-moves}
 use Rattle.sw_headline.proofs.Below.{IsBelow, handled-below}
 
 -- messages stay, and each new reply lists such entries alone

@@ -6,7 +6,6 @@ pub mod Heard
 pub mod Invariants
 pub mod Level
 pub mod NeverOlder
-pub mod Places
 pub mod Reached
 pub mod Shows
 pub mod Stamps

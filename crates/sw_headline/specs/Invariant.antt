@@ -1,9 +1,9 @@
 -- What holds of every world of a run.
-use Rattle.std.specs.Prelude.{◌≡◌, ℕ, List, [], Contains}
+use Rattle.std.specs.Prelude.{ℕ, Contains}
 use Rattle.sw_ring.specs.Cluster.{ClusterModel}
 use Rattle.sw_message.specs.Learnt.{Booked, Marked}
 use Rattle.sw_message.specs.Step.{Folders}
-use Rattle.sw_scene.specs.Disks.{IsOfNoPlace, IsSide}
+use Rattle.sw_scene.specs.Disks.{AreOfPlaces, IsSide}
 use Rattle.sw_scene.specs.Filed.{IsDiskFiled}
 use Rattle.sw_scene.specs.Scene.{Mail, disk_of, known_to}
 use Rattle.sw_scene.specs.Sound.{IsDrawn, MayBeMade}
@@ -12,10 +12,6 @@ use Rattle.sw_core.specs.World.{World}
 use Rattle.sw_owed.specs.Decided.{KeepsStamps}
 use Rattle.sw_duties.specs.Counted.{CountsApart}
 use Rattle.sw_owed.specs.Duties.{KeepsDuties}
-
--- only the folders of the cluster's places have files
-abbrev pub AreOfPlaces : ClusterModel → Folders → Type 0
-AreOfPlaces cluster folders = (name : List ℕ) → IsOfNoPlace cluster name → folders name ≡ []
 
 pub record Invariant (cluster : ClusterModel) (world : World) : Type 0 where
   -- each operation's transcript is a run of its machine, no two puts have one stamp, and each reply answers an earlier request

@@ -9,7 +9,7 @@ use Rattle.sw_core.specs.World.{Operating, World, numbered}
 use Rattle.sw_core.proofs.Numbered.{numbered-within, pushed-cases, pushed-last, replaced-cases}
 use Rattle.sw_events.specs.WorldMove.{Answered, Began, GaveUp, Moved, WorldMove}
 use Rattle.sw_events.proofs.Carried.{led}
-use Rattle.sw_events.proofs.SceneMoves.{moved-follows, noted-follows}
+use Rattle.sw_scene.proofs.Moved.{moved-follows, noted-follows}
 
 -- a step has come, and each operation of a number above a limit started at it or later
 record IsLater (limit step : ℕ) (world : World) : Type 0 where

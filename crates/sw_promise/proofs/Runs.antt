@@ -1,57 +1,19 @@
--- A world keeps its promises whatever happens, one event or many.
-use Rattle.std.proofs.Common.{ℕ, List}
-use Rattle.sw_diskfile.proofs.Lists.{Contains-none}
+-- All that every scene of a run keeps: whatever happens to a world may happen to its scene, one event or many.
+use Rattle.std.proofs.Common.{List}
 use Rattle.sw_ring.specs.Cluster.{ClusterModel}
-use Rattle.sw_scene.specs.Moves.{next_stamp}
-use Rattle.sw_scene.specs.Scene.{Scene, empty_scene}
-use Rattle.sw_scene.specs.Sound.{IsSoundScene}
 use Rattle.sw_core.specs.Event.{Event, IsRun}
 use Rattle.sw_core.specs.World.{World}
-use Rattle.sw_events.specs.SceneMove.{Asked, AtDevice, Crashed, CrashedMounting, DeviceMove, Failed, Handled, Lost, Notes, NotesDelete, NotesNothing, NotesPut, Passed, Restarted, SceneMove, Stopped}
 use Rattle.sw_events.proofs.Carried.{run-carried}
-use Rattle.sw_events.proofs.SceneMoves.{scene-moves}
+use Rattle.sw_events.proofs.SceneMoves.{may-move}
+use Rattle.sw_kept.specs.Kept.{KeepsAll}
+use Rattle.sw_kept.proofs.Kept.{empty_keeps, still_keeps}
 use Rattle.sw_owed.specs.Promise.{KeepsPromises}
-use Rattle.sw_promise.proofs.Moves.{crashes_mounting_promising, crashes_promising, fails_promising, handles_promising, restarts_promising, stopped_promising}
-use Rattle.sw_promise.proofs.News.{IsPromising}
-use Rattle.sw_promise.proofs.Quiet.{books_promising, lost_promising, marks_promising, sends_promising, ticked_promising}
 
-module _ (scene : Scene) (sound : IsSoundScene scene) (promising : IsPromising scene) where
-  -- something happens to a device
-  at_device : (after : Scene) → DeviceMove scene after → IsPromising after
-  at_device _ Passed = ticked_promising scene promising
-  at_device _ (Handled at operation sent request after done) = handles_promising scene sound promising at operation sent request after done
-  at_device _ (Failed at operation sent request after done) = fails_promising scene sound promising at operation sent request after done
-  at_device _ (Crashed at operation sent request after done) = crashes_promising scene sound promising at operation sent request after done
-  at_device _ (CrashedMounting device after done) = crashes_mounting_promising scene sound promising device after done
-  at_device _ (Stopped device) = stopped_promising scene sound promising device
-  at_device _ (Restarted device after done) = restarts_promising scene sound promising device after done
-  at_device _ (Lost device) = lost_promising scene sound device promising
+pub run_keeps_all : (cluster : ClusterModel) (events : List Event) (world : World) → IsRun cluster events world → KeepsAll world.scene
+run_keeps_all cluster events world run = run-carried cluster (λ world. KeepsAll world.scene)
+    (λ before after sound still keeps move. still_keeps before.scene keeps before.clock after.scene (may-move before after move still.scene))
+    (empty_keeps cluster run.rules) events world run
 
-  module _ (clock : ℕ) where
-    -- a put or a delete is noted
-    notes : (noted : Scene) → Notes clock scene noted → IsPromising noted
-    notes _ NotesNothing = promising
-    notes _ (NotesPut name object left put) = books_promising scene (next_stamp clock scene.last) name object promising
-    notes _ (NotesDelete name left) = marks_promising scene (next_stamp clock scene.last) name left promising
-
-    -- whatever happens
-    moves : (after : Scene) → SceneMove clock scene after → IsPromising after
-    moves _ (AtDevice after move) = at_device after move
-    moves _ (Asked noted begins number sents) = sends_promising noted number sents (notes noted begins)
-
--- of a cluster without messages
-empty_promising : (cluster : ClusterModel) → IsPromising (empty_scene cluster)
-empty_promising cluster = record {
-  keeps = record {
-    kept = λ made place claim claimed. absurd (Contains-none _ claimed.was_made.2);
-    listed = λ made later place claim listing claimed. absurd (Contains-none _ claimed.was_made.2);
-  };
-  marks = λ marked has. absurd (Contains-none marked has);
-  tombstones = λ made was_made. absurd (Contains-none _ was_made.2);
-}
-
--- in every world of a run
+-- so its promises
 pub run_keeps : (cluster : ClusterModel) (events : List Event) (world : World) → IsRun cluster events world → KeepsPromises world.scene
-run_keeps cluster events world run = (run-carried cluster (λ world. IsPromising world.scene)
-    (λ before after sound still promising move. moves before.scene sound.scene promising before.clock after.scene (scene-moves before after move))
-    (empty_promising cluster) events world run).keeps
+run_keeps cluster events world run = (run_keeps_all cluster events world run).promises

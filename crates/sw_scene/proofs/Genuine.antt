@@ -34,16 +34,20 @@ module _ (cluster : ClusterModel) (learnt : Learnt) (sound : IsSoundBook cluster
       (put, is.known, one ∙ ap (λ (i : ℕ). put_fields cluster.policy put.stamp put.name put.object i) (sym (ap (λ (a : ArchiveModel). a.index) one)))
 
   module _ (place : PlaceModel) (files : List File) (filed : All (IsFiled cluster learnt.book place) files) (room : ℕ) (found : Found) (is : IsFound files room found) (stamp index : ℕ) (durable : Bool) (has : HasEntryAt found.names stamp index durable) where
-    by_content : (there : Option Content) → content_at (file_name_text (Data stamp index durable)) files ≡ there → IsSome there → IsGenuine cluster learnt (reply.Fragment (found.bytes (Data stamp index durable)))
+    by_content : (there : Option Content) → content_at (file_name_text (Data stamp index durable)) files ≡ there → IsSome there → IsOfPut cluster learnt.book place stamp index (found.bytes (Data stamp index durable))
     by_content None same some = absurd (true≢false (sym some))
     by_content (Some content) same some =
         let is_name = ((is.directory (Data stamp index durable)).0 (entry_there found.names stamp index durable has)).0 in
         let from = found_file (IsFiled cluster learnt.book place) files (file_name_text (Data stamp index durable)) content same filed in
         let read : from.0.content.bytes ≡ found.bytes (Data stamp index durable) = ap (λ (c : Content). c.bytes) from.3 ∙ sym (is.bytes (Data stamp index durable) content same) in
-        subst (λ (b : List ℕ). IsGenuine cluster learnt (reply.Fragment b)) read (of_put place stamp index from.0.content.bytes (from.1 stamp index durable is_name from.2))
+        subst (IsOfPut cluster learnt.book place stamp index) read (from.1 stamp index durable is_name from.2)
 
-    -- that of an entry that is there
-    pub fetched : IsGenuine cluster learnt (reply.Fragment (found.bytes (Data stamp index durable)))
-    fetched =
+    -- the bytes of an entry that is there are those of a put
+    pub read_of_put : IsOfPut cluster learnt.book place stamp index (found.bytes (Data stamp index durable))
+    read_of_put =
         by_content (content_at (file_name_text (Data stamp index durable)) files) refl
         (has_content files (file_name_text (Data stamp index durable)) ((is.directory (Data stamp index durable)).0 (entry_there found.names stamp index durable has)).1)
+
+    -- and so is the archive that is fetched
+    pub fetched : IsGenuine cluster learnt (reply.Fragment (found.bytes (Data stamp index durable)))
+    fetched = of_put place stamp index (found.bytes (Data stamp index durable)) read_of_put

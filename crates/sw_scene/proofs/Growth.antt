@@ -23,7 +23,7 @@ module _ {X Y : Type 0} (f : X → Y) (xs : List X) where
 
 -- ---- replies
 
-heard-append : (mail more : List Mail) → heard_in (mail ++ more) ≡ heard_in mail ++ heard_in more
+pub heard-append : (mail more : List Mail) → heard_in (mail ++ more) ≡ heard_in mail ++ heard_in more
 heard-append [] more = refl
 heard-append (Request at operation sent ∷ mail) more = heard-append mail more
 heard-append (Answer at operation sent reply ∷ mail) more = ap (λ heard. record { device = sent.device; msg = sent.msg; reply = reply } ∷ heard) (heard-append mail more)

@@ -1,11 +1,13 @@
 pub mod Changed
 pub mod DeviceMoves
+pub mod Disks
 pub mod Filed
 pub mod Genuine
 pub mod Growth
 pub mod Held
 pub mod Knowledge
 pub mod Leaving
+pub mod Moved
 pub mod Rows
 pub mod Sounds
 pub mod Tombstones

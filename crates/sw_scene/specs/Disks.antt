@@ -1,5 +1,5 @@
 -- What a disk holds, and what a mount, a failure and a crash make of it.
-use Rattle.std.specs.Prelude.{◌≡◌, ◌⊎◌, ℕ, List, Contains}
+use Rattle.std.specs.Prelude.{◌≡◌, ◌⊎◌, ℕ, List, [], Contains}
 use Rattle.sw_disk.specs.Folder.{File}
 use Rattle.sw_hashpath.specs.Place.{IsPlace, PlaceModel, folder_of}
 use Rattle.sw_diskfile.specs.Normal.{HaveOneNormalForm, IsNormalForm}
@@ -23,6 +23,10 @@ IsSide (Undecided before after) side = (side ≡ before) ⊎ (side ≡ after)
 -- no place of the cluster has a folder of this name
 abbrev pub IsOfNoPlace : ClusterModel → List ℕ → Type 0
 IsOfNoPlace cluster name = (place : PlaceModel) → IsPlace cluster.part_power place → name ≡ folder_of place → ⊥
+
+-- only the folders of the cluster's places have files
+abbrev pub AreOfPlaces : ClusterModel → Folders → Type 0
+AreOfPlaces cluster folders = (name : List ℕ) → IsOfNoPlace cluster name → folders name ≡ []
 
 -- a mount brings the folder of each place to normal form
 pub record IsMounted (cluster : ClusterModel) (device : ℕ) (before after : Folders) : Type 0 where

@@ -3,4 +3,5 @@ pub mod Disks
 pub mod Filed
 pub mod Moves
 pub mod Scene
+pub mod SceneMove
 pub mod Sound

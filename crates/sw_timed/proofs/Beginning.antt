@@ -9,8 +9,8 @@ use Rattle.sw_core.specs.Sound.{IsSoundWorld}
 use Rattle.sw_core.specs.World.{World}
 use Rattle.sw_core.proofs.Numbered.{pushed-cases}
 use Rattle.sw_events.proofs.Next.{no-answer, no-request}
-use Rattle.sw_events.specs.SceneMove.{Notes}
-use Rattle.sw_events.proofs.SceneMoves.{noted-follows, noted-mail}
+use Rattle.sw_scene.specs.SceneMove.{Notes}
+use Rattle.sw_scene.proofs.Moved.{noted-follows, noted-mail}
 use Rattle.sw_timed.specs.Timed.{IsTimely}
 use Rattle.sw_timed.proofs.Going.{proceeds-timely}
 use Rattle.sw_timed.proofs.Later.{AreTimely, scene-timely}

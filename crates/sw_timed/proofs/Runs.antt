@@ -10,7 +10,7 @@ use Rattle.sw_core.proofs.Numbered.{none-numbered}
 use Rattle.sw_core.proofs.Telling.{answered-stands, given_up-stands}
 use Rattle.sw_events.specs.WorldMove.{Answered, Began, GaveUp, Moved, WorldMove}
 use Rattle.sw_events.proofs.Carried.{run-carried}
-use Rattle.sw_events.proofs.SceneMoves.{moved-follows}
+use Rattle.sw_scene.proofs.Moved.{moved-follows}
 use Rattle.sw_timed.specs.Timed.{IsTimely}
 use Rattle.sw_timed.proofs.Beginning.{begins-timely}
 use Rattle.sw_timed.proofs.Going.{proceeds-timely}

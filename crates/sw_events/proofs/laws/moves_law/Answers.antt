@@ -1,5 +1,7 @@
+use Rattle.std.proofs.Common.{[], ◌∷◌, refl}
+use Rattle.sw_core.proofs.Happening.{leads-sound}
 use Rattle.sw_events.proofs.Happened.{happens-moves}
-use Rattle.sw_events.proofs.SceneMoves.{scene-moves}
+use Rattle.sw_events.proofs.SceneMoves.{may-move, scene-moves}
 use Rattle.sw_events.proofs.laws.moves_law.Goals as goal
 
 pub returns-clause-world : goal.returns-clause-world
@@ -7,3 +9,6 @@ returns-clause-world c event before after goes = happens-moves before after even
 
 pub returns-clause-scene : goal.returns-clause-scene
 returns-clause-scene c event before after goes = scene-moves before after (happens-moves before after event goes)
+
+pub returns-clause-may : goal.returns-clause-may
+returns-clause-may c cluster event before after sound goes = may-move before after (happens-moves before after event goes) (leads-sound cluster before (event ∷ []) after sound (after, goes, refl)).scene

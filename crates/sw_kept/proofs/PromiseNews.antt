@@ -4,21 +4,17 @@ use Rattle.sw_types.specs.Stamp.{greatest_stamp}
 use Rattle.sw_hashdir.specs.Listing.{ListingModel}
 use Rattle.sw_hashpath.specs.Place.{PlaceModel}
 use Rattle.sw_ring.specs.Cluster.{ClusterModel}
-use Rattle.sw_message.specs.Learnt.{Marked}
 use Rattle.sw_message.specs.Message.{is_primary, place_in}
 use Rattle.sw_message.specs.Warrant.{HasListing}
 use Rattle.sw_claim.specs.Claim.{Claim, IsListedIn}
-use Rattle.sw_scene.specs.Scene.{Scene, known_to}
+use Rattle.sw_scene.specs.Scene.{Scene}
 use Rattle.sw_owed.specs.Promise.{BearsAt, Borne, HandedOn, HandedOnBefore, IsClaimed, IsKept, IsListedStill, KeepsPromises, Listed, Lost, LostSince, Made, WasMade}
-use Rattle.sw_promise.proofs.Grown.{GoesOn, claimed_before, handed_still, listed_still, lost_still}
+use Rattle.sw_kept.specs.Kept.{AreMarksStamped}
+use Rattle.sw_kept.proofs.Grown.{GoesOn, claimed_before, handed_still, listed_still, lost_still}
 
 -- ---- stamps
 
--- the stamp of each delete that was started is one that there is
-abbrev pub AreMarksStamped : Scene → Type 0
-AreMarksStamped scene = (marked : Marked) → Contains (known_to scene).marks marked → marked.stamp ≤ greatest_stamp
-
--- so is that of each tombstone that a reply lists
+-- the stamp of each tombstone that a reply lists is one that there is
 abbrev pub IsListingStamped : Made → Type 0
 IsListingStamped made = (place : PlaceModel) (listing : ListingModel) (stamp : ℕ) → place_in made.msg ≡ Some place → HasListing made.reply listing → Contains listing.tombstones stamp → stamp ≤ greatest_stamp
 

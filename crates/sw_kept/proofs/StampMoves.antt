@@ -14,13 +14,13 @@ use Rattle.sw_scene.specs.Disks.{IsHeldWithin, IsSide, Sure}
 use Rattle.sw_scene.specs.Moves.{Crashes, CrashesMounting, Fails, Handles, Restarts, lost, stopped, ticked}
 use Rattle.sw_scene.specs.Scene.{Request, Scene, StartedDelete, disk_of, set_device}
 use Rattle.sw_scene.specs.Sound.{IsSoundScene}
-use Rattle.sw_promise.proofs.News.{AreMarksStamped}
+use Rattle.sw_kept.specs.Kept.{AreMarksStamped}
 use Rattle.sw_owed.specs.Decided.{AreNamesBy, IsMessageBy}
 use Rattle.sw_owed.proofs.Grown.{message_still, same_scene}
 use Rattle.sw_owed.proofs.Held.{failed_names, found_names, held_names, left_names, mounted_names, sure_names}
-use Rattle.sw_decided.proofs.News.{IsKeeping}
+use Rattle.sw_kept.proofs.StampNews.{IsKeeping}
 use Rattle.sw_owed.proofs.Steps.{stepped}
-use Rattle.sw_decided.proofs.Still.{lost_keeping, replies_keeping, set_keeping}
+use Rattle.sw_kept.proofs.Still.{lost_keeping, replies_keeping, set_keeping}
 
 -- a message that buries only what was deleted has a stamp that there is
 message_stamped : (scene : Scene) (by : ℕ) → AreMarksStamped scene → (msg : Msg) → IsMessageBy scene by msg → IsStamped msg

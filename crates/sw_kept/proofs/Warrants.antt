@@ -15,7 +15,8 @@ use Rattle.sw_scene.specs.Scene.{Scene, StartedDelete, known_to}
 use Rattle.sw_scene.specs.Sound.{IsSoundScene}
 use Rattle.sw_scene.proofs.Growth.{mapped-cases}
 use Rattle.sw_owed.specs.Promise.{WasHandedOn, WasShown}
-use Rattle.sw_promise.proofs.News.{AreMarksStamped, IsPromising}
+use Rattle.sw_kept.specs.Kept.{AreMarksStamped}
+use Rattle.sw_kept.proofs.PromiseNews.{IsPromising}
 use Rattle.sw_owed.proofs.Replies.{known_made, made_before, made_of}
 
 module _ (scene : Scene) (sound : IsSoundScene scene) where

@@ -15,12 +15,13 @@ use Rattle.sw_scene.specs.Moves.{books, lost, marks, requests_of, sends, ticked}
 use Rattle.sw_scene.specs.Scene.{Answer, DeviceState, IsLostSince, Loss, Mail, Request, Scene, StartedDelete, StartedPut, set_device}
 use Rattle.sw_scene.specs.Sound.{IsSoundScene}
 use Rattle.sw_owed.specs.Promise.{BearsAt, Borne, HandedOn, IsKept, Lost, Made, WasHandedOn, WasMade}
-use Rattle.sw_promise.proofs.Devices.{set_bears}
-use Rattle.sw_promise.proofs.Grown.{GoesOn, handed_still}
+use Rattle.sw_kept.proofs.Devices.{set_bears}
+use Rattle.sw_kept.proofs.Grown.{GoesOn, handed_still}
 use Rattle.sw_owed.proofs.Kept.{DiskBears}
-use Rattle.sw_promise.proofs.News.{AreMarksStamped, IsPromising, promising_on}
+use Rattle.sw_kept.specs.Kept.{AreMarksStamped}
+use Rattle.sw_kept.proofs.PromiseNews.{IsPromising, promising_on}
 use Rattle.sw_owed.proofs.Replies.{made_before, made_place}
-use Rattle.sw_promise.proofs.Warrants.{marks_stamped}
+use Rattle.sw_kept.proofs.Warrants.{marks_stamped}
 
 -- where no reply is new, and what was borne is kept, so are the promises
 quiet : (before after : Scene) → GoesOn before after → ((made : Made) → WasMade after made → WasMade before made) → (AreMarksStamped before → AreMarksStamped after)

@@ -4,7 +4,7 @@ use Rattle.std.proofs.lemmas.Bool.{cases_eq}
 use Rattle.sw_hashpath.specs.Place.{PlaceModel}
 use Rattle.sw_claim.specs.Claim.{Claim}
 use Rattle.sw_scene.specs.Scene.{DeviceState, Scene, set_device}
-use Rattle.sw_events.proofs.Disks.{disk_here, disk_there}
+use Rattle.sw_scene.proofs.Disks.{disk_here, disk_there}
 use Rattle.sw_owed.specs.Promise.{BearsAt}
 use Rattle.sw_owed.proofs.Kept.{DiskBears}
 

@@ -15,10 +15,10 @@ use Rattle.sw_scene.specs.Sound.{IsSoundScene, MayBeSent}
 use Rattle.sw_owed.specs.Promise.{BearsAt, WasHandedOn}
 use Rattle.sw_owed.proofs.Faults.{no_claim}
 use Rattle.sw_owed.proofs.Kept.{Bears, DiskBears, IsAway, away_or_not, failed_bears, found_bears, handled_bears, held_bears, left_bears, mounted_bears, sure_bears}
-use Rattle.sw_promise.proofs.News.{IsPromising}
-use Rattle.sw_promise.proofs.Quiet.{set_promising}
-use Rattle.sw_promise.proofs.Replying.{replies_promising}
-use Rattle.sw_promise.proofs.Warrants.{handed_on, request_stamped}
+use Rattle.sw_kept.proofs.PromiseNews.{IsPromising}
+use Rattle.sw_kept.proofs.Quiet.{set_promising}
+use Rattle.sw_kept.proofs.Replying.{replies_promising}
+use Rattle.sw_kept.proofs.Warrants.{handed_on, request_stamped}
 
 module _ (scene : Scene) (sound : IsSoundScene scene) (promising : IsPromising scene) where
   -- a device has these folders on its disk, that bear what the one before did, or the duty was handed on

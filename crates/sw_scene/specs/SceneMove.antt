@@ -1,12 +1,13 @@
--- What one basic event may do to a scene.
-use Rattle.std.specs.Prelude.{◌≤◌, ℕ, Contains, List}
+-- What may happen to a scene, as one of a few moves.
+use Rattle.std.specs.Prelude.{◌≤◌, ℕ, Contains, List, ⊤}
 use Rattle.sw_types.specs.Name.{NameModel}
 use Rattle.sw_types.specs.Object.{ObjectModel}
 use Rattle.sw_types.specs.Stamp.{greatest_stamp}
 use Rattle.sw_archive.specs.Put.{IsPut}
 use Rattle.sw_message.specs.declared.sent.Sent.{Sent}
 use Rattle.sw_scene.specs.Moves.{Crashes, CrashesMounting, Fails, Handles, Restarts, books, lost, marks, next_stamp, sends, stopped, ticked}
-use Rattle.sw_scene.specs.Scene.{Request, Scene}
+use Rattle.sw_scene.specs.Scene.{Request, Scene, known_to}
+use Rattle.sw_scene.specs.Sound.{MayBeSent}
 
 -- something happens to one device, or nothing but that time passes
 pub data DeviceMove (before : Scene) : Scene → Type 0 where
@@ -32,3 +33,12 @@ pub data Notes (clock : ℕ) (before : Scene) : Scene → Type 0 where
 pub data SceneMove (clock : ℕ) (before : Scene) : Scene → Type 0 where
   AtDevice : (after : Scene) → DeviceMove before after → SceneMove clock before after
   Asked : (noted : Scene) → Notes clock before noted → (number : ℕ) (sents : List Sent) → SceneMove clock before (sends number sents noted)
+
+-- each message that is made in a move is about a place of the cluster, and warranted by what is known once the put or delete is noted
+abbrev pub IsWarrantedMove : (clock : ℕ) (before after : Scene) → SceneMove clock before after → Type 0
+IsWarrantedMove clock before _ (AtDevice after move) = ⊤
+IsWarrantedMove clock before _ (Asked noted notes number sents) = (sent : Sent) → Contains sents sent → MayBeSent noted.cluster (known_to noted) sent.msg
+
+-- What may happen to a scene, whoever does it: a move, in which no message is made but a warranted one.
+abbrev pub MayHappen : (clock : ℕ) (before after : Scene) → Type 0
+MayHappen clock before after = (move : SceneMove clock before after) × IsWarrantedMove clock before after move

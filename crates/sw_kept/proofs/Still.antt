@@ -12,7 +12,7 @@ use Rattle.sw_owed.specs.Promise.{Made, WasMade}
 use Rattle.sw_owed.specs.Decided.{IsReplyBy}
 use Rattle.sw_owed.proofs.Draws.{still_rise}
 use Rattle.sw_owed.proofs.Held.{DiskNames}
-use Rattle.sw_decided.proofs.News.{IsKeeping, keeping_on}
+use Rattle.sw_kept.proofs.StampNews.{IsKeeping, keeping_on}
 
 module _ (scene : Scene) (keeping : IsKeeping scene) where
   -- whatever a device's disk may hold has names that are by now

@@ -1,24 +1,18 @@
 -- Only the folders of places have files, whatever happens.
-use Rattle.std.proofs.Common.{inl, inr, ⊎_elim, ℕ, false, List, Option, Some, None, refl, sym, subst, ◌∙◌}
+use Rattle.std.proofs.Common.{inl, inr, ⊎_elim, ℕ, false, Option, Some, None, refl, sym, subst, ◌∙◌}
 use Rattle.std.proofs.lemmas.Bool.{cases_eq}
-use Rattle.sw_ring.specs.Cluster.{ClusterModel}
 use Rattle.sw_hashpath.specs.Place.{PlaceModel}
+use Rattle.sw_ring.specs.Cluster.{ClusterModel}
 use Rattle.sw_message.specs.Message.{IsPlaceOf, place_in}
 use Rattle.sw_message.specs.Step.{Folders, IsStepAt}
 use Rattle.sw_message.specs.declared.message.Msg.{Msg}
 use Rattle.sw_message.specs.declared.reply.Reply.{Reply}
 use Rattle.sw_scene.specs.Devices.{IsDeviceStep, no_folders}
-use Rattle.sw_scene.specs.Disks.{Disk, IsFailedBy, IsFoundOn, IsHeldWithin, IsLeftOf, IsMounted, IsSide, Sure, Undecided}
-use Rattle.sw_scene.specs.Scene.{DeviceState, Request, Scene, disk_of, set_device}
+use Rattle.sw_scene.specs.Disks.{AreOfPlaces, Disk, IsFailedBy, IsFoundOn, IsHeldWithin, IsLeftOf, IsMounted, IsSide, Sure, Undecided}
+use Rattle.sw_scene.specs.Scene.{DeviceState, Request, Scene, disk_of, empty_scene, set_device}
+use Rattle.sw_scene.specs.SceneMove.{Asked, AtDevice, Crashed, CrashedMounting, DeviceMove, Failed, Handled, Lost, Notes, NotesDelete, NotesNothing, NotesPut, Passed, Restarted, SceneMove, Stopped}
 use Rattle.sw_scene.specs.Sound.{IsSoundScene}
-use Rattle.sw_core.specs.Event.{Event, IsRun}
-use Rattle.sw_core.specs.World.{World}
-use Rattle.sw_core.proofs.Happening.{run-sound}
-use Rattle.sw_events.specs.SceneMove.{Asked, AtDevice, Crashed, CrashedMounting, DeviceMove, Failed, Handled, Lost, Notes, NotesDelete, NotesNothing, NotesPut, Passed, Restarted, SceneMove, Stopped}
-use Rattle.sw_events.proofs.Carried.{run-carried}
-use Rattle.sw_events.proofs.Disks.{disk_here, disk_there}
-use Rattle.sw_events.proofs.SceneMoves.{scene-moves}
-use Rattle.sw_headline.specs.Invariant.{AreOfPlaces}
+use Rattle.sw_scene.proofs.Disks.{disk_here, disk_there}
 
 -- ---- the disk of a device
 
@@ -39,7 +33,7 @@ module _ (cluster : ClusterModel) (device : ℕ) where
   mounted : (before after : Folders) → IsMounted cluster device before after → These before → These after
   mounted before after is are name none = is.others name none ∙ are name none
 
-  found_on : (disk : Disk) (found : Folders) → IsFoundOn cluster device disk found → IsOfPlaces disk → These found
+  pub found_on : (disk : Disk) (found : Folders) → IsFoundOn cluster device disk found → IsOfPlaces disk → These found
   found_on (Sure folders) found is are = are found is
   found_on (Undecided before after) found (inl is) are = mounted before found is (are before (inl refl))
   found_on (Undecided before after) found (inr is) are = mounted after found is (are after (inr refl))
@@ -69,7 +63,7 @@ module _ (cluster : ClusterModel) (device : ℕ) where
 
 -- ---- scenes
 
-abbrev AllOfPlaces : Scene → Type 0
+abbrev pub AllOfPlaces : Scene → Type 0
 AllOfPlaces scene = (device : ℕ) → IsOfPlaces scene.cluster device (disk_of scene device)
 
 -- one device has such a disk
@@ -108,14 +102,11 @@ module _ (scene : Scene) (sound : IsSoundScene scene) (are : AllOfPlaces scene) 
   noted_so clock _ (NotesPut name object left put) = are
   noted_so clock _ (NotesDelete name left) = are
 
-  moves_so : (clock : ℕ) (after : Scene) → SceneMove clock scene after → AllOfPlaces after
+  -- whatever happens
+  pub moves_so : (clock : ℕ) (after : Scene) → SceneMove clock scene after → AllOfPlaces after
   moves_so clock _ (AtDevice after move) = at_device after move
   moves_so clock _ (Asked noted begins number sents) = noted_so clock noted begins
 
--- ---- runs
-
-pub of_places : (cluster : ClusterModel) (events : List Event) (world : World) → IsRun cluster events world → (device : ℕ) (side : Folders) → IsSide (disk_of world.scene device) side → AreOfPlaces cluster side
-of_places cluster events world run device side is =
-    subst (λ (one : ClusterModel). AreOfPlaces one side) (run-sound cluster events world run).same_cluster
-    (run-carried cluster (λ one. AllOfPlaces one.scene) (λ before after sound still are move. moves_so before.scene sound.scene are before.clock after.scene (scene-moves before after move))
-    (λ one. sure cluster one no_folders (λ name none. refl)) events world run device side is)
+-- of a cluster without files
+pub empty_so : (cluster : ClusterModel) → AllOfPlaces (empty_scene cluster)
+empty_so cluster device = sure cluster device no_folders (λ name none. refl)

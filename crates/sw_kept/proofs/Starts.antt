@@ -7,12 +7,12 @@ use Rattle.sw_scene.specs.Moves.{requests_of, sends}
 use Rattle.sw_scene.specs.Scene.{Answer, Mail, Request, Scene, StartedDelete, StartedPut}
 use Rattle.sw_scene.specs.Sound.{IsSoundScene}
 use Rattle.sw_owed.specs.Promise.{Made, WasMade}
-use Rattle.sw_promise.proofs.News.{AreMarksStamped}
+use Rattle.sw_kept.specs.Kept.{AreMarksStamped}
 use Rattle.sw_owed.proofs.Replies.{made_before}
 use Rattle.sw_owed.specs.Decided.{IsMessageBy, Rise}
 use Rattle.sw_owed.proofs.Draws.{delete_draw, delete_drawn, put_draw, put_drawn}
 use Rattle.sw_owed.proofs.Grown.{GoesOn, reply_still}
-use Rattle.sw_decided.proofs.News.{IsKeeping, keeping_on}
+use Rattle.sw_kept.proofs.StampNews.{IsKeeping, keeping_on}
 use Rattle.sw_owed.proofs.Requests.{message_by}
 
 module _ (scene : Scene) (sound : IsSoundScene scene) (keeping : IsKeeping scene) (book : List StartedPut) (marks : List StartedDelete) (last : Option ℕ) (number : ℕ) (sents : List Sent) where

@@ -12,10 +12,10 @@ use Rattle.sw_scene.specs.Moves.{replies}
 use Rattle.sw_scene.specs.Scene.{Answer, DeviceState, Scene, set_device}
 use Rattle.sw_scene.specs.Sound.{IsSoundScene}
 use Rattle.sw_owed.specs.Promise.{BearsAt, Borne, HandedOn, IsClaimed, Made, WasHandedOn, WasMade}
-use Rattle.sw_promise.proofs.Devices.{here_bears, set_bears}
-use Rattle.sw_promise.proofs.Grown.{GoesOn, handed_still}
+use Rattle.sw_kept.proofs.Devices.{here_bears, set_bears}
+use Rattle.sw_kept.proofs.Grown.{GoesOn, handed_still}
 use Rattle.sw_owed.proofs.Kept.{DiskBears}
-use Rattle.sw_promise.proofs.News.{IsListingStamped, IsPromising, promising_on}
+use Rattle.sw_kept.proofs.PromiseNews.{IsListingStamped, IsPromising, promising_on}
 use Rattle.sw_owed.proofs.Replies.{made_before, made_place}
 
 module _ (scene : Scene) (sound : IsSoundScene scene) (operation : ℕ) (sent : Sent) (given : Reply) (state : DeviceState) where

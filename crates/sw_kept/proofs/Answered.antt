@@ -16,7 +16,7 @@ use Rattle.sw_owed.proofs.Dates.{asked_by, from_put, put_from}
 use Rattle.sw_owed.specs.Duties.{Here, IsDutyKept, LostHere, LostThere, Own, There, place_of_put}
 use Rattle.sw_owed.proofs.Losses.{lost_before}
 use Rattle.sw_owed.proofs.Holding.{held}
-use Rattle.sw_duties.proofs.Shown.{shown_kept}
+use Rattle.sw_kept.proofs.Shown.{shown_kept}
 
 -- what is claimed is of one index
 one_index : (what : What) (index other : ℕ) → IsOfIndex index what → IsOfIndex other what → index ≡ other

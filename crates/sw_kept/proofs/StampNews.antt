@@ -5,7 +5,7 @@ use Rattle.sw_message.specs.Message.{place_in}
 use Rattle.sw_message.specs.declared.sent.Sent.{Sent}
 use Rattle.sw_scene.specs.Scene.{Request, Scene}
 use Rattle.sw_owed.specs.Promise.{Made, OnDisk, WasMade}
-use Rattle.sw_promise.proofs.News.{AreMarksStamped}
+use Rattle.sw_kept.specs.Kept.{AreMarksStamped}
 use Rattle.sw_owed.specs.Decided.{AreNamesBy, IsMessageBy, IsReplyBy, KeepsStamps, Rise}
 use Rattle.sw_owed.proofs.Grown.{GoesOn, message_still, names_still, reply_still}
 

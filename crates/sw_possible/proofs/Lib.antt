@@ -1,0 +1,11 @@
+pub mod Chosen
+pub mod Disks
+pub mod Listings
+pub mod Moves
+pub mod Names
+pub mod Orders
+pub mod Places
+pub mod Purging
+pub mod Rows
+pub mod Steps
+pub mod Surveys
