@@ -1,5 +1,5 @@
 -- After a transcript of a pass one thing comes next, and there is one end.
-use Rattle.std.proofs.Common.{◌≡◌, ◌⊎◌, inl, inr, ℕ, Bool, true, false, List, [], ◌∷◌, length, Option, Some, None, refl, sym, ap, subst, ◌∙◌}
+use Rattle.std.proofs.Common.{◌≡◌, inl, inr, ℕ, Bool, true, false, List, [], ◌∷◌, length, Option, Some, None, refl, sym, ap, subst, ◌∙◌}
 use Rattle.std.specs.Prelude.{◌↔◌}
 use Rattle.std.proofs.lemmas.List.Elements.{filter_agree}
 use Rattle.sw_hashpath.specs.Place.{PlaceModel}
@@ -62,7 +62,7 @@ question-over begun (Told sent given ∷ past) answer tells = refl
 stage-over : (begun : stages.Begun) → KeepsRules (cluster_of begun) → (past : List Step) (end : End) → stages.IsEnd begun past end → stages.IsNext begun past Over
 stage-over (Asks begun) rules past (Answered answer) ends = question-over begun past answer ends.1
 stage-over (Syncs begun) rules past (Synced end) (closed, state, is, ended) =
-    (state, is, (over_by_rules begun rules past state is (ap (λ (stage : sync_stage.Stage). sync_standing.ends stage) ended)).1, ap syncs.next_of (sym closed))
+    (state, is, ((over_by_rules begun rules past state is (ap (λ (stage : sync_stage.Stage). sync_standing.ends stage) ended)).1, ap syncs.next_of (sym closed)))
 stage-over (Reverts begun) rules past (Reverted end) (closed, is) = subst (λ waits. reverts.next_or begun past waits Over) (sym closed) (revert.Ends end, is, refl)
 stage-over begun rules past end ends = absurd ends
 

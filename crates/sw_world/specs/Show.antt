@@ -1,11 +1,8 @@
 -- What a device keeps in the folder of a name, as it is shown.
 use Rattle.std.specs.Prelude.{◌≡◌, ℕ, Bool, List, [], ◌∷◌, ◌++◌, map, Contains, Some}
-use denote.Bor.{Bor}
-use Rattle.std.specs.BTreeMap.{BTreeMap}
 use Rattle.std.specs.List.{AllZip}
 use Rattle.sw_disk.specs.Answers.{names_of}
 use Rattle.sw_disk.specs.Folder.{Content, File, content_at}
-use Rattle.sw_memdisk.specs.Lent.{bytes_under}
 use Rattle.sw_hashpath.specs.FileName.{IsFileName, file_name_text}
 use Rattle.sw_hashpath.specs.declared.file_name.FileName.{FileName}
 use Rattle.sw_hashpath.specs.declared.file_name.FileName.TheVariants.{Data}
@@ -38,23 +35,6 @@ pub record IsShown (device : ℕ) (files : List File) (shown : List ShowLine) : 
   pub entries : List ShowLine
   pub are_entries : AllZip (IsShownEntry device files) listing.entries entries
   pub shown_is : shown ≡ or_empty device (entries ++ map (Buried device) listing.tombstones)
-
--- ---- as the files of a folder are lent
-
--- an archive stands under the name of an entry
-abbrev pub HasArchive : BTreeMap (Bor (List ℕ)) (Bor (List ℕ)) → Entry → Type 0
-HasArchive lent entry = IsFileName (Data entry.stamp entry.index entry.durable)
-    × (bytes : List ℕ) × (bytes_under (file_name_text (Data entry.stamp entry.index entry.durable)) lent ≡ Some bytes) × (archive : ArchiveModel) × IsArchive bytes archive
-
--- an entry is shown with its payload
-pub record IsLentEntry (device : ℕ) (lent : BTreeMap (Bor (List ℕ)) (Bor (List ℕ))) (entry : Entry) (line : ShowLine) : Type 0 where
-  pub bytes : List ℕ
-  pub there : bytes_under (file_name_text (Data entry.stamp entry.index entry.durable)) lent ≡ Some bytes
-  pub archive : ArchiveModel
-  pub is_archive : IsArchive bytes archive
-  pub line_is : line ≡ Stored device entry archive.payload
-
--- ---- files
 
 -- there is a file of the name of an entry
 abbrev pub HasNameOf : List (List ℕ) → Entry → Type 0

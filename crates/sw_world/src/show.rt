@@ -3,14 +3,15 @@
 ghost use Rattle.std.specs.Prelude.{◌≡◌, ◌++◌, IfOk, OnOk, map};
 ghost use Rattle.std.specs.List.{All, AllZip};
 ghost use Rattle.sw_archive.specs.Archive.{ArchiveModel, IsArchive};
+ghost use Rattle.sw_disk.specs.Answers.{names_of};
 ghost use Rattle.sw_hashpath.specs.Place.{folder_of};
 ghost use Rattle.sw_memdisk.specs.Log.{files_now};
 ghost use Rattle.sw_memdisk.specs.Memory.{log_at};
-ghost use Rattle.sw_world.specs.Show.{HasArchive, IsLentEntry, IsPayload, IsReadable, IsShown};
+ghost use Rattle.sw_world.specs.Show.{HasNameOf, IsPayload, IsReadable, IsShown, IsShownEntry, or_empty};
 ghost use Rattle.sw_told.specs.declared.show.ShowLine.TheVariants.{Buried};
 
+use crate::names::names_in;
 use std::alloc::Global;
-use std::collections::BTreeMap;
 use sw_archive::{ArchiveFault, read_archive};
 use sw_hashdir::{Entry, HashDir};
 use sw_hashpath::{FileName, Place};
@@ -29,11 +30,10 @@ pub(crate) fn shown(
     ensures { IfOk result (IsShown device (files_now (log_at disk.now.folders (folder_of place)))) }
 {
     let folder = place.folder(alloc)?;
-    let names = disk.names(alloc, folder.as_str())?;
-    let files = disk.lend(alloc, folder.as_str())?;
+    let names = names_in(alloc, disk, folder.as_str())?;
     let directory = HashDir::of(alloc, &names)?;
     let listing = directory.listing(alloc)?;
-    let mut lines = stored_lines(alloc, &files, device, listing.entries())?;
+    let mut lines = stored_lines(alloc, disk, folder.as_str(), device, listing.entries())?;
     push_buried(&mut lines, device, listing.tombstones())?;
     if lines.is_empty() {
         lines.push(ShowLine::Empty { device })?;
@@ -41,19 +41,21 @@ pub(crate) fn shown(
     Ok(Items::from(lines))
 }
 
-// A line for each of some entries of a folder whose files are lent, in their order.
+// A line for each of some entries of a folder, in their order.
 fn stored_lines(
     alloc: Global,
-    files: &BTreeMap<&str, &[u8]>,
+    disk: &MemDisk,
+    folder: &str,
     device: u16,
     entries: &[Entry],
 ) -> Result<Vec<ShowLine>, NoMemory>
-    requires { All (HasArchive files.now) entries.now }
-    ensures { IfOk result (λ lines. AllZip (IsLentEntry device files.now) entries.now lines.items) }
+    requires readable { All IsReadable (files_now (log_at disk.now.folders folder.now)) }
+    requires named { All (HasNameOf (names_of (files_now (log_at disk.now.folders folder.now)))) entries.now }
+    ensures { IfOk result (λ lines. AllZip (IsShownEntry device (files_now (log_at disk.now.folders folder.now))) entries.now lines.items) }
 {
     let mut lines = Vec::new(alloc);
     for entry in entries {
-        lines.push(stored_line(alloc, files, device, *entry)?)?;
+        lines.push(stored_line(alloc, disk, folder, device, *entry)?)?;
     }
     Ok(lines)
 }
@@ -61,12 +63,14 @@ fn stored_lines(
 // The line of an entry of a folder, with the payload of its archive.
 fn stored_line(
     alloc: Global,
-    files: &BTreeMap<&str, &[u8]>,
+    disk: &MemDisk,
+    folder: &str,
     device: u16,
     entry: Entry,
 ) -> Result<ShowLine, NoMemory>
-    requires { HasArchive files.now entry }
-    ensures { IfOk result (IsLentEntry device files.now entry) }
+    requires readable { All IsReadable (files_now (log_at disk.now.folders folder.now)) }
+    requires named { HasNameOf (names_of (files_now (log_at disk.now.folders folder.now))) entry }
+    ensures { IfOk result (IsShownEntry device (files_now (log_at disk.now.folders folder.now)) entry) }
 {
     let name = FileName::Data {
         stamp: entry.stamp,
@@ -74,10 +78,10 @@ fn stored_line(
         durable: entry.durable,
     };
     let text = name.print(alloc)?;
-    let Some(bytes) = files.get(text.as_str()) else {
+    let Some(bytes) = disk.file(folder, text.as_str()) else {
         unreachable!();
     };
-    let payload = payload_of(alloc, *bytes)?;
+    let payload = payload_of(alloc, bytes)?;
     Ok(ShowLine::Stored {
         device,
         entry,
