@@ -1,7 +1,7 @@
 -- Each message about no place has an answer: partitions and places whose folders have a file, and hashes of the floors that there are.
-use Rattle.std.proofs.Common.{◌≡◌, ◌≢◌, ◌⊎◌, ◌↔◌, inl, inr, ⊎_elim, ℕ, ◌<◌, ◌&&◌, Bool, true, false, AllPairs, Contains, List, [], ◌∷◌, filter, map, nat_eq, Less, nat_cmp, Option, Some, None, refl, sym, ap, subst, ◌∙◌, arith}
+use Rattle.std.proofs.Common.{◌≡◌, ◌≢◌, ◌⊎◌, ◌↔◌, inl, inr, ⊎_elim, ℕ, ◌<◌, ◌&&◌, Bool, true, AllPairs, Contains, List, [], ◌∷◌, filter, map, nat_eq, Less, nat_cmp, Option, Some, None, refl, sym, ap, subst, ◌∙◌, arith}
 use Rattle.std.specs.Cmp.Lexicographic.{slice_cmp}
-use Rattle.std.proofs.lemmas.Bool.{cases_eq, eq-eqb, eqb-true}
+use Rattle.std.proofs.lemmas.Bool.{and_from, and_parts, cases_eq, eq-eqb, eqb-true}
 use Rattle.std.proofs.lemmas.Cmp.{nat_list_cmp_total}
 use Rattle.std.proofs.lemmas.List.Elements.{All-contains_itself, All-weaker}
 use Rattle.std.proofs.lemmas.List.Kept.{AllPairs-cons}
@@ -214,19 +214,11 @@ module _ (part : ℕ) (floors : List (PlaceModel × Floor)) where
   abbrev hashed : ℕ → Hashed
   hashed suffix = (suffix, md5 (suffix_text (in_suffix part suffix floors)))
 
-  and_both : (a b : Bool) → a ≡ true → b ≡ true → a && b ≡ true
-  and_both true b first second = second
-  and_both false b first second = absurd (cc)
-
-  and_parts : (a b : Bool) → a && b ≡ true → (a ≡ true) × (b ≡ true)
-  and_parts true b is = (refl, is)
-  and_parts false b is = absurd (cc)
-
   -- a suffix that some floor has has floors
   some_in : (suffix : ℕ) (one : PlaceModel × Floor) → Contains floors one → in_part one ≡ true → number_of one ≡ suffix → in_suffix part suffix floors ≢ []
   some_in suffix one has at number none =
       let test : PlaceModel × Floor → Bool = λ floor. nat_eq floor.0.part part && nat_eq (suffix_number floor.0.hash) suffix in
-      Contains-none one (subst (λ these. Contains these one) none (keeps test floors one has (and_both (in_part one) (nat_eq (number_of one) suffix) at (eq-eqb (number_of one) suffix number))))
+      Contains-none one (subst (λ these. Contains these one) none (keeps test floors one has (and_from (in_part one) (nat_eq (number_of one) suffix) at (eq-eqb (number_of one) suffix number))))
 
   first_in : (suffix : ℕ) (those : List (PlaceModel × Floor)) → in_suffix part suffix floors ≡ those → those ≢ [] → (one : PlaceModel × Floor) × Contains floors one × (in_part one ≡ true) × (number_of one ≡ suffix)
   first_in suffix [] same some = absurd (some refl)
