@@ -1,0 +1,10 @@
+pub mod Crashes
+pub mod Cuts
+pub mod Devices
+pub mod Events
+pub mod Files
+pub mod Going
+pub mod Machines
+pub mod Rooms
+pub mod Sureness
+pub mod Writes
