@@ -7,6 +7,10 @@ pub mod Handled
 pub mod Keeping
 pub mod Leads
 pub mod Lining
+pub mod OneEnds
+pub mod OneSteps
+pub mod OneStory
+pub mod OneTold
 pub mod OpenMessages
 pub mod Overs
 pub mod OwnEvents

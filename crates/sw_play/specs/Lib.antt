@@ -2,4 +2,5 @@ pub mod Full
 pub mod Lines
 pub mod Play
 pub mod Promised
+pub mod Same
 pub mod Story
