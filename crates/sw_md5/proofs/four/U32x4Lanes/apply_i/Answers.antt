@@ -1,0 +1,11 @@
+use Rattle.std.proofs.Common.{bit_or, bit_xor}
+use Rattle.std.specs.Int.{w32, bit_not}
+use Rattle.sw_md5.proofs.LaneLemmas.{own, zipped, mapped}
+use Rattle.sw_md5.proofs.four.U32x4Lanes.apply_i.Goals as goal
+
+pub returns : goal.returns
+returns c =
+    let x = own 4 c.args.x c.fits-x.0 in
+    let y = own 4 c.args.y c.fits-y.0 in
+    let z = own 4 c.args.z c.fits-z.0 in
+    (zipped bit_xor _ _ _ _ y (zipped bit_or _ _ _ _ x (mapped (bit_not w32) _ _ z))).each
