@@ -1,18 +1,20 @@
 -- Bytes are an archive or have a fault, one at most, and an archive has none.
-use Rattle.std.proofs.Common.{◌≡◌, ◌≤◌, ◌+◌, ◌⊎◌, inl, inr, List, ℕ, length, take, drop, Option, Some, None, Result, Ok, Err, refl, sym, ap, subst, ◌∙◌, arith}
+use Rattle.std.proofs.Common.{◌≡◌, ◌≤◌, ◌+◌, ◌==◌, ◌&&◌, ◌⊎◌, Bool, true, false, cond, not, nat_eq, nat_lt, inl, inr, List, ℕ, length, take, drop, Option, Some, None, Result, Ok, Err, refl, sym, ap, subst, ◌∙◌, arith}
 use Rattle.std.proofs.lemmas.Bool.{cases_eq, cases_lt}
 use Rattle.std.specs.Prelude.{MatchResult}
+use Rattle.std.specs.Cmp.Lexicographic.{pointwise}
+use Rattle.md5.specs.Md5.{md5}
+use Rattle.sw_types.specs.Object.{greatest_body}
+use Rattle.sw_types.specs.Stamp.{greatest_stamp}
 use Rattle.sw_words.specs.Bytes.{IsBytes}
-use Rattle.sw_words.specs.Memory.{UnlessMemory}
 use Rattle.sw_words.proofs.ByteLists.{IsBytes-drop, IsBytes-take}
-use Rattle.sw_archive.specs.Archive.{ArchiveModel, IsArchive, IsSound, header_of, payload_length}
-use Rattle.sw_archive.specs.Fault.{IsFault, IsFirstFault, IsLateFault, Opens, early_fault, head_in, path_in}
-use Rattle.sw_archive.specs.Header.{HeaderModel}
+use Rattle.sw_archive.specs.Archive.{ArchiveModel, IsArchive, IsSound, header_of, magic, payload_length}
+use Rattle.sw_archive.specs.Fault.{IsFault, IsFirstFault, IsLateFault, Opens, before_md5, early_fault, head_in, is_code, last_md5, number_fault, path_in}
+use Rattle.sw_archive.specs.Header.{HeaderModel, told_length}
 use Rattle.sw_archive.specs.Reading.{IsReadBehind}
-use Rattle.sw_archive.specs.declared.archive.Archive.{Archive}
 use Rattle.sw_archive.specs.declared.fault.ArchiveFault.{ArchiveFault}
-use Rattle.sw_archive.specs.declared.fault.ArchiveFault.TheVariants.{BadField, NoMemory, Short}
-use Rattle.sw_archive.specs.declared.fault.ArchiveField.TheVariants.{Head, Name, Payload}
+use Rattle.sw_archive.specs.declared.fault.ArchiveFault.TheVariants.{BadField, BadLength, BadMagic, BadVersion, Damaged, NoMemory, Short}
+use Rattle.sw_archive.specs.declared.fault.ArchiveField.TheVariants.{BodyLength, Code, Head, Name, Payload, Stamp}
 use Rattle.sw_archive.proofs.Archives.{archive_of, archive_opens, behind, head_in-behind, one_archive, path_in-behind}
 use Rattle.sw_archive.proofs.Heads.{head_or_none}
 use Rattle.sw_archive.proofs.Openings.{Opened, one_opening, opened}
@@ -122,27 +124,57 @@ archive_or_fault bytes are = elim (cases_lt (length bytes) 68) [
   | inr long ↦ archive_or_behind bytes long are (opened bytes (omega (arith, long)) are)
 ]
 
--- ---- what reading answers
+-- ---- no fault is want of memory
+
+not_told : {A : Type 0} (broken : Bool) (fault wanted : A) (later : Option A) → (fault ≡ wanted → ⊥) → (later ≡ Some wanted → ⊥) → cond broken (Some fault) later ≡ Some wanted → ⊥
+not_told true fault wanted later other none e = other (cc)
+not_told false fault wanted later other none e = none e
+
+number_is_none : (h : HeaderModel) → number_fault h ≡ Some NoMemory → ⊥
+number_is_none h =
+    not_told (not (is_code h.k h.m h.segment && nat_lt h.index (h.k + h.m))) (BadField Code) NoMemory _ (λ e. absurd (cc))
+    (not_told (nat_lt greatest_stamp h.stamp) (BadField Stamp) NoMemory _ (λ e. absurd (cc))
+    (not_told (nat_lt greatest_body h.body_length) (BadField BodyLength) NoMemory None (λ e. absurd (cc)) (λ e. absurd (cc))))
+
+early_is_none : (bytes : List ℕ) (h : HeaderModel) → early_fault bytes h ≡ Some NoMemory → ⊥
+early_is_none bytes h =
+    not_told (not (pointwise nat_eq h.magic magic)) BadMagic NoMemory _ (λ e. absurd (cc))
+    (not_told (not (h.version == 1)) (BadVersion h.version) NoMemory _ (λ e. absurd (cc))
+    (not_told (not (told_length h == length bytes)) (BadLength (told_length h) (length bytes)) NoMemory _ (λ e. absurd (cc))
+    (not_told (not (pointwise nat_eq (last_md5 bytes) (md5 (before_md5 bytes)))) (Damaged (last_md5 bytes) (md5 (before_md5 bytes))) NoMemory _ (λ e. absurd (cc)) (number_is_none h))))
+
+late_is_none : (h : HeaderModel) (rest : List ℕ) → IsLateFault h rest NoMemory → ⊥
+late_is_none h rest (inl name) = let e = name.0 in absurd (cc)
+late_is_none h rest (inr (inl head)) = let e = head.0 in absurd (cc)
+late_is_none h rest (inr (inr payload)) = let e = payload.0 in absurd (cc)
+
+first_is_none : (bytes : List ℕ) (h : HeaderModel) (rest : List ℕ) → IsFirstFault bytes h rest NoMemory → ⊥
+first_is_none bytes h rest (inl early) = early_is_none bytes h early
+first_is_none bytes h rest (inr late) = late_is_none h rest late.1
+
+pub no_memory : (bytes : List ℕ) → IsFault bytes NoMemory → ⊥
+no_memory bytes (inl short) = let e = short.1 in absurd (cc)
+no_memory bytes (inr long) = first_is_none bytes long.1.header long.1.rest long.1.first
+
+pub fault_of_bytes : (bytes : List ℕ) (fault : ArchiveFault) → IsFault bytes fault → fault ≡ NoMemory → ⊥
+fault_of_bytes bytes fault is same = no_memory bytes (subst (IsFault bytes) same is)
+
+-- ---- what checking answers
 
 -- the answer is the archive that the bytes spell, or their first fault
-abbrev pub Answers : List ℕ → Result Archive ArchiveFault → Type 0
-Answers bytes result = MatchResult result (λ archive. IsArchive bytes archive) (λ fault. UnlessMemory NoMemory fault (IsFault bytes fault))
+abbrev pub Answers : List ℕ → Result ArchiveModel ArchiveFault → Type 0
+Answers bytes result = MatchResult result (λ archive. IsArchive bytes archive) (λ fault. IsFault bytes fault)
 
-pub reads : (bytes : List ℕ) (result : Result Archive ArchiveFault) → Answers bytes result
-    → (archive : ArchiveModel) → IsArchive bytes archive → UnlessMemory (Err NoMemory) result (result ≡ Ok archive)
-reads bytes (Ok found) answers archive is = λ other. ap (λ (a : Archive). Ok a) (one_archive bytes found archive answers is)
-reads bytes (Err fault) answers archive is = λ other. absurd (no_fault bytes archive fault is (answers (λ same. other (ap (λ (f : ArchiveFault). Err f) same))))
+pub reads : (bytes : List ℕ) (result : Result ArchiveModel ArchiveFault) → Answers bytes result → (archive : ArchiveModel) → IsArchive bytes archive → result ≡ Ok archive
+reads bytes (Ok found) answers archive is = ap (λ (a : ArchiveModel). Ok a) (one_archive bytes found archive answers is)
+reads bytes (Err fault) answers archive is = absurd (no_fault bytes archive fault is answers)
 
-pub refused : (bytes : List ℕ) (result : Result Archive ArchiveFault) → Answers bytes result
-    → (fault : ArchiveFault) → IsFault bytes fault → UnlessMemory (Err NoMemory) result (result ≡ Err fault)
-refused bytes (Ok found) answers fault at = λ other. absurd (no_fault bytes found fault answers at)
-refused bytes (Err found) answers fault at =
-    λ other. ap (λ (f : ArchiveFault). Err f) (one_fault bytes found fault (answers (λ same. other (ap (λ (f : ArchiveFault). Err f) same))) at)
+pub refused : (bytes : List ℕ) (result : Result ArchiveModel ArchiveFault) → Answers bytes result → (fault : ArchiveFault) → IsFault bytes fault → result ≡ Err fault
+refused bytes (Ok found) answers fault at = absurd (no_fault bytes found fault answers at)
+refused bytes (Err found) answers fault at = ap (λ (f : ArchiveFault). Err f) (one_fault bytes found fault answers at)
 
 -- what is read behind a header without a fault is the answer
-pub read_behind : (bytes : List ℕ) (h : HeaderModel) (rest : List ℕ) (result : Result Archive ArchiveFault) → 68 ≤ length bytes → Opens bytes h rest → early_fault bytes h ≡ None
-    → length rest + 52 ≡ length bytes → IsBytes rest → MatchResult result (λ archive. IsReadBehind h rest archive) (λ fault. UnlessMemory NoMemory fault (IsLateFault h rest fault))
-    → Answers bytes result
+pub read_behind : (bytes : List ℕ) (h : HeaderModel) (rest : List ℕ) (result : Result ArchiveModel ArchiveFault) → 68 ≤ length bytes → Opens bytes h rest → early_fault bytes h ≡ None
+    → length rest + 52 ≡ length bytes → IsBytes rest → MatchResult result (λ archive. IsReadBehind h rest archive) (λ fault. IsLateFault h rest fault) → Answers bytes result
 read_behind bytes h rest (Ok archive) long opens none whole rest_bytes read = read_is_archive bytes h rest archive opens (faultless bytes h none) whole rest_bytes read
-read_behind bytes h rest (Err fault) long opens none whole rest_bytes late =
-    λ other. inr (long, record { header = h; rest = rest; opens = opens; first = inr (none, late other) })
+read_behind bytes h rest (Err fault) long opens none whole rest_bytes late = inr (long, record { header = h; rest = rest; opens = opens; first = inr (none, late) })

@@ -22,7 +22,7 @@ no_position : {A B : Type 0} (fault : A → B) (found : Option A) → option_map
 no_position fault None e = refl
 no_position fault (Some position) e = absurd (cc)
 
-wanted : {A : Type 0} (keeps : Bool) (fault : A) → cond keeps None (Some fault) ≡ None → keeps ≡ true
+pub wanted : {A : Type 0} (keeps : Bool) (fault : A) → cond keeps None (Some fault) ≡ None → keeps ≡ true
 wanted true fault e = refl
 wanted false fault e = absurd (cc)
 
@@ -94,7 +94,7 @@ length-head head e = let s = small head e in simp length-append (omega (arith, s
 pub same_pair : (a b : Pair) → a.0 ≡ b.0 → a.1 ≡ b.1 → a ≡ b
 same_pair a b name value = ap (λ (text : List ℕ). (text, a.1)) name ∙ ap (λ (text : List ℕ). (b.0, text)) value
 
-one_pair : (a b : Pair) (x y : List ℕ) → length a.1 < 2 ^ 16 → length b.1 < 2 ^ 16 → pair_bytes a ++ x ≡ pair_bytes b ++ y → (a ≡ b) × (x ≡ y)
+pub one_pair : (a b : Pair) (x y : List ℕ) → length a.1 < 2 ^ 16 → length b.1 < 2 ^ 16 → pair_bytes a ++ x ≡ pair_bytes b ++ y → (a ≡ b) × (x ≡ y)
 one_pair a b x y a_short b_short e =
     let whole : length a.0 ∷ (a.0 ++ (to_be_bytes w16 (length a.1) ++ (a.1 ++ x))) ≡ length b.0 ∷ (b.0 ++ (to_be_bytes w16 (length b.1) ++ (b.1 ++ y))) = simp append_assoc at e in
     let count : length a.0 ≡ length b.0 = cc in
@@ -105,7 +105,7 @@ one_pair a b x y a_short b_short e =
     (same_pair a b name.0 value.0, value.1)
 
 -- as many pairs
-same_pairs : (a b : List Pair) (x y : List ℕ) → length a ≡ length b → AreShort a → AreShort b → flat_map pair_bytes a ++ x ≡ flat_map pair_bytes b ++ y → (a ≡ b) × (x ≡ y)
+pub same_pairs : (a b : List Pair) (x y : List ℕ) → length a ≡ length b → AreShort a → AreShort b → flat_map pair_bytes a ++ x ≡ flat_map pair_bytes b ++ y → (a ≡ b) × (x ≡ y)
 same_pairs [] [] x y count a_short b_short e = (refl, e)
 same_pairs [] (q ∷ qs) x y count a_short b_short e = absurd (omega (arith, count))
 same_pairs (p ∷ ps) [] x y count a_short b_short e = absurd (omega (arith, count))
@@ -301,7 +301,7 @@ abbrev IsHeadOrNone : List ℕ → Type 0
 IsHeadOrNone bytes = ((head : HeadModel) × IsHead bytes head) ⊎ ((head : HeadModel) → IsHead bytes head → ⊥)
 
 -- the bytes of a head, regrouped behind its content type
-behind_content : (head : HeadModel) → head_bytes head ≡ to_be_bytes w16 (length head.content_type) ++ (head.content_type ++ (length head.pairs ∷ flat_map pair_bytes head.pairs))
+pub behind_content : (head : HeadModel) → head_bytes head ≡ to_be_bytes w16 (length head.content_type) ++ (head.content_type ++ (length head.pairs ∷ flat_map pair_bytes head.pairs))
 behind_content head = append_assoc (to_be_bytes w16 (length head.content_type)) head.content_type (length head.pairs ∷ flat_map pair_bytes head.pairs)
 
 -- of a content type and as many pairs as are counted

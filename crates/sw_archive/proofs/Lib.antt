@@ -9,6 +9,7 @@ mod Heads
 mod Labels
 pub mod Objects
 mod Openings
+mod PairTexts
 mod Paths
 mod Payloads
 mod Pieces

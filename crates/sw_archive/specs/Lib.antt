@@ -6,6 +6,7 @@ pub mod Fault
 pub mod Header
 pub mod Label
 pub mod Parts
+pub mod Pairs
 pub mod Pieces
 pub mod Put
 pub mod Reading

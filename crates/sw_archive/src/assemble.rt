@@ -1,7 +1,8 @@
 //! Archives are gathered, and the object is read from them.
 
-ghost use Rattle.std.specs.Prelude.{◌≡◌, ◌<◌, ◌≤◌, ◌+◌, ◌++◌, ◌∷◌, ◌↔◌, [], List, ℕ, Err, IfOk, IsTrue, MatchOption, MatchResult, Ok, length};
+ghost use Rattle.std.specs.Prelude.{◌≡◌, ◌≢◌, ◌<◌, ◌≤◌, ◌+◌, ◌++◌, ◌∷◌, ◌↔◌, [], List, ℕ, Err, IfOk, IsTrue, MatchOption, MatchResult, Ok, length};
 ghost use Rattle.std.specs.List.{All};
+ghost use Rattle.md5.specs.Md5.{md5};
 ghost use Rattle.sw_words.specs.Memory.{UnlessMemory};
 ghost use Rattle.sw_types.specs.Name.{NameModel};
 ghost use Rattle.sw_types.specs.Object.{ObjectModel};
@@ -141,7 +142,14 @@ fn object_of(alloc: Global, archives: &[Archive]) -> Result<Object, AssembleFaul
     ensures { GivesObject archives.now result }
 {
     let object = decode_object(alloc, archives)?;
-    let told = archives[0].body_md5();
+    check_body(archives[0].body_md5(), object)
+}
+
+// The object, if its body has the MD5 that is told. It takes no memory.
+fn check_body(told: [u8; 16], object: Object) -> Result<Object, AssembleFault>
+    ensures { MatchResult result (λ checked. (checked ≡ object) × (told ≡ object.body_md5))
+        (λ fault. (fault ≡ AssembleFault.BodyMd5 told (md5 object.body)) × (told ≢ md5 object.body)) }
+{
     let computed = object.body_md5();
     if told != computed {
         return Err(AssembleFault::BodyMd5 { told, computed });

@@ -6,20 +6,24 @@ mod archive;
 mod assemble;
 mod decoding;
 mod fault;
+mod head_text;
 mod header;
 mod label;
 mod laws;
 mod making;
 mod parts;
+mod path_text;
 mod payload;
 mod reading;
+mod spelled;
 
 pub use crate::archive::Archive;
 pub use crate::assemble::{Assemble, AssembleFault};
 pub use crate::fault::{ArchiveFault, ArchiveField};
 pub use crate::laws::{archive_law, assemble_law, fault_law, pieces_law, put_law};
 pub use crate::making::make_archive;
-pub use crate::reading::read_archive;
+pub use crate::reading::{check_archive, read_archive};
+pub use crate::spelled::Spelled;
 
 #[cfg(test)]
 mod tests;

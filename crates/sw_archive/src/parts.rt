@@ -3,31 +3,16 @@
 ghost use Rattle.std.specs.Prelude.{◌≡◌, ◌<◌, ◌≤◌, ◌^◌, ◌==◌, ◌++◌, ◌∷◌, length, IfNone, IfOk, IfSome, MatchOption, None, OnOk, false, List, ℕ};
 ghost use Rattle.std.specs.Int.{w16, to_be_bytes};
 ghost use Rattle.std.specs.List.{All, flat_map, list_any};
-ghost use Rattle.sw_types.specs.Head.{HeadModel, Pair, head_fault};
+ghost use Rattle.sw_types.specs.Head.{Pair, head_fault};
 ghost use Rattle.sw_types.specs.Name.{NameModel, path_of};
-ghost use Rattle.sw_archive.specs.Parts.{AreShort, IsHead, IsPath, head_bytes, pair_bytes};
+ghost use Rattle.sw_archive.specs.Parts.{AreShort, IsPath, head_bytes, pair_bytes};
 
 use crate::header::{front_of, u16_at};
 use std::alloc::Global;
-use sw_types::{Bytes, Head, HeadFault, Name, NameFault, NoMemory};
+use sw_types::{Bytes, Head, NoMemory};
 
-/// The name whose path this is, if it is one's.
-pub(crate) fn read_path(alloc: Global, path: &[u8]) -> Result<Option<Name>, NoMemory>
-    ensures found { IfOk result (λ found. IfSome found (λ name. IsPath path.now name)) }
-    ensures none { IfOk result (λ found. IfNone found ((name : NameModel) → ¬ (IsPath path.now name))) }
-{
-    let Some((account, container, object)) = parts_of(path) else {
-        return Ok(None);
-    };
-    match Name::make(alloc, account, container, object) {
-        Ok(name) => Ok(Some(name)),
-        Err(NameFault::NoMemory) => Err(NoMemory),
-        Err(_) => Ok(None),
-    }
-}
-
-// The three parts of a path, where there are so many slashes.
-fn parts_of(path: &[u8]) -> Option<(&[u8], &[u8], &[u8])>
+/// The three parts of a path, where there are so many slashes.
+pub(crate) fn parts_of(path: &[u8]) -> Option<(&[u8], &[u8], &[u8])>
     ensures none { IfNone result ((name : NameModel) → ¬ (IsPath path.now name)) }
     ensures some { IfSome result (λ parts. path.now ≡ path_of (record { account = parts.0.now; container = parts.1.now; object = parts.2.now })) }
     ensures only { IfSome result (λ parts. (name : NameModel) → IsPath path.now name → name ≡ record { account = parts.0.now; container = parts.1.now; object = parts.2.now }) }
@@ -54,44 +39,8 @@ fn cut_at_slash(text: &[u8]) -> Option<(&[u8], &[u8])>
     None
 }
 
-/// The head whose bytes these are, if they are one's.
-pub(crate) fn read_head(alloc: Global, bytes: &[u8]) -> Result<Option<Head>, NoMemory>
-    ensures found { IfOk result (λ found. IfSome found (λ head. IsHead bytes.now head)) }
-    ensures none { IfOk result (λ found. IfNone found ((head : HeadModel) → ¬ (IsHead bytes.now head))) }
-{
-    let Some((content_type, pairs)) = head_at(alloc, bytes)? else {
-        return Ok(None);
-    };
-    match Head::make(alloc, content_type, &pairs) {
-        Ok(head) => Ok(Some(head)),
-        Err(HeadFault::NoMemory) => Err(NoMemory),
-        Err(_) => Ok(None),
-    }
-}
-
-// The content type and the pairs that the bytes spell, all of the bytes.
-fn head_at(alloc: Global, bytes: &[u8]) -> Result<Option<(&[u8], Vec<(Bytes, Bytes)>)>, NoMemory>
-    ensures none { IfOk result (λ found. IfNone found ((head : HeadModel) → ¬ (IsHead bytes.now head))) }
-    ensures some { IfOk result (λ found. IfSome found (λ p. bytes.now ≡ head_bytes (record { content_type = p.0.now; pairs = p.1.items }))) }
-    ensures only { IfOk result (λ found. IfSome found (λ p. (head : HeadModel) → IsHead bytes.now head → head ≡ record { content_type = p.0.now; pairs = p.1.items })) }
-{
-    let Some((content_type, rest)) = text_at(bytes) else {
-        return Ok(None);
-    };
-    let Some((count, rest)) = rest.split_first() else {
-        return Ok(None);
-    };
-    let Some((pairs, rest)) = pairs_at(alloc, usize::from(*count), rest)? else {
-        return Ok(None);
-    };
-    if !rest.is_empty() {
-        return Ok(None);
-    }
-    Ok(Some((content_type, pairs)))
-}
-
-// So many pairs, and what comes after them.
-fn pairs_at(
+/// So many pairs, and what comes after them.
+pub(crate) fn pairs_at(
     alloc: Global,
     count: usize,
     bytes: &[u8],
@@ -115,8 +64,8 @@ fn pairs_at(
     Ok(Some((pairs, rest)))
 }
 
-// A pair, and what comes after it.
-fn pair_at(bytes: &[u8]) -> Option<(&[u8], &[u8], &[u8])>
+/// A pair, and what comes after it.
+pub(crate) fn pair_at(bytes: &[u8]) -> Option<(&[u8], &[u8], &[u8])>
     ensures none { IfNone result ((pair : Pair) (rest : List ℕ) → length pair.1 < 2 ^ 16 → ¬ (bytes.now ≡ pair_bytes pair ++ rest)) }
     ensures some { IfSome result (λ p. (bytes.now ≡ pair_bytes (p.0.now, p.1.now) ++ p.2.now) × (length p.1.now < 2 ^ 16)) }
 {
@@ -125,8 +74,8 @@ fn pair_at(bytes: &[u8]) -> Option<(&[u8], &[u8], &[u8])>
     Some((name, value, rest))
 }
 
-// A text behind its length in two bytes, and what comes after it.
-fn text_at(bytes: &[u8]) -> Option<(&[u8], &[u8])>
+/// A text behind its length in two bytes, and what comes after it.
+pub(crate) fn text_at(bytes: &[u8]) -> Option<(&[u8], &[u8])>
     ensures none { IfNone result ((text rest : List ℕ) → length text < 2 ^ 16 → ¬ (bytes.now ≡ to_be_bytes w16 (length text) ++ (text ++ rest))) }
     ensures some { IfSome result (λ p. (bytes.now ≡ to_be_bytes w16 (length p.0.now) ++ (p.0.now ++ p.1.now)) × (length p.0.now < 2 ^ 16)) }
 {

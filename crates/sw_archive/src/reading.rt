@@ -1,6 +1,6 @@
 //! Archives are read.
 
-ghost use Rattle.std.specs.Prelude.{◌≡◌, ◌≤◌, ◌+◌, length, Err, IfErr, IfOk, MatchResult, Ok};
+ghost use Rattle.std.specs.Prelude.{◌≡◌, ◌≢◌, ◌≤◌, ◌+◌, length, Err, IfErr, IfOk, MatchResult, Ok};
 ghost use Rattle.sw_words.specs.Memory.{UnlessMemory};
 ghost use Rattle.sw_archive.specs.Archive.{ArchiveModel, IsArchive};
 ghost use Rattle.sw_archive.specs.Fault.{IsFault, IsLateFault, early_fault, is_code, number_fault};
@@ -9,26 +9,42 @@ ghost use Rattle.sw_archive.specs.Reading.{AreNumbers, IsReadBehind};
 
 use crate::archive::Archive;
 use crate::fault::{ArchiveFault, ArchiveField};
+use crate::head_text::HeadText;
 use crate::header::{Header, sixteen};
-use crate::parts::{read_head, read_path};
+use crate::path_text::PathText;
 use crate::payload::payload_length;
+use crate::spelled::Spelled;
 use md5::{Digest, Md5};
 use std::alloc::Global;
-use sw_types::{Bytes, Object, Policy, Stamp};
+use sw_types::{Object, Policy, Stamp};
 
-/// The archive that the bytes spell, or their first fault. Bytes past the end are a fault.
+/// The archive that the bytes spell, or their first fault. Bytes past the end are a fault. It takes memory, and may
+/// answer `NoMemory`, only where there is no fault.
 pub fn read_archive(alloc: Global, bytes: &[u8]) -> Result<Archive, ArchiveFault>
     ensures found { IfOk result (λ archive. IsArchive bytes.now archive) }
     ensures reads { (archive : ArchiveModel) → IsArchive bytes.now archive → UnlessMemory (Err ArchiveFault.NoMemory) result (result ≡ Ok archive) }
     ensures fault { IfErr result (λ fault. UnlessMemory ArchiveFault.NoMemory fault (IsFault bytes.now fault)) }
-    ensures refused { (fault : ArchiveFault) → IsFault bytes.now fault → UnlessMemory (Err ArchiveFault.NoMemory) result (result ≡ Err fault) }
+    ensures refused { (fault : ArchiveFault) → IsFault bytes.now fault → result ≡ Err fault }
+    ensures memory { result ≡ Err ArchiveFault.NoMemory → (archive : ArchiveModel) × IsArchive bytes.now archive }
 {
-    read_fields(alloc, bytes)
+    let spelled = check_archive(bytes)?;
+    let archive = spelled.archive(alloc)?;
+    Ok(archive)
+}
+
+/// The archive that the bytes spell, where they stand, or their first fault. It takes no memory.
+pub fn check_archive(bytes: &[u8]) -> Result<Spelled<'_>, ArchiveFault>
+    ensures found { IfOk result (λ archive. IsArchive bytes.now archive) }
+    ensures reads { (archive : ArchiveModel) → IsArchive bytes.now archive → result ≡ Ok archive }
+    ensures fault { IfErr result (λ fault. IsFault bytes.now fault × (fault ≢ ArchiveFault.NoMemory)) }
+    ensures refused { (fault : ArchiveFault) → IsFault bytes.now fault → result ≡ Err fault }
+{
+    check_fields(bytes)
 }
 
 // The same, field by field.
-fn read_fields(alloc: Global, bytes: &[u8]) -> Result<Archive, ArchiveFault>
-    ensures { MatchResult result (λ archive. IsArchive bytes.now archive) (λ fault. UnlessMemory ArchiveFault.NoMemory fault (IsFault bytes.now fault)) }
+fn check_fields(bytes: &[u8]) -> Result<Spelled<'_>, ArchiveFault>
+    ensures { MatchResult result (λ archive. IsArchive bytes.now archive) (λ fault. IsFault bytes.now fault) }
 {
     if bytes.len() < 68 {
         return Err(ArchiveFault::Short { found: bytes.len() });
@@ -37,7 +53,7 @@ fn read_fields(alloc: Global, bytes: &[u8]) -> Result<Archive, ArchiveFault>
     if let Some(fault) = header.early_fault(bytes) {
         return Err(fault);
     }
-    read_behind(alloc, &header, rest)
+    check_behind(&header, rest)
 }
 
 impl Header {
@@ -98,19 +114,18 @@ impl Header {
 }
 
 // What stands behind a header without a fault.
-fn read_behind(alloc: Global, header: &Header, rest: &[u8]) -> Result<Archive, ArchiveFault>
+fn check_behind<'a>(header: &Header, rest: &'a [u8]) -> Result<Spelled<'a>, ArchiveFault>
     requires length { length rest.now + 52 ≡ told_length header.now }
     requires numbers { AreNumbers header.now }
-    ensures { MatchResult result (λ archive. IsReadBehind header.now rest.now archive)
-        (λ fault. UnlessMemory ArchiveFault.NoMemory fault (IsLateFault header.now rest.now fault)) }
+    ensures { MatchResult result (λ archive. IsReadBehind header.now rest.now archive) (λ fault. IsLateFault header.now rest.now fault) }
 {
     let (path, tail) = rest.split_at(usize::from(header.path_length));
     let (head, tail) = tail.split_at(usize::from(header.head_length));
     let (payload, _md5) = tail.split_at(header.payload_length as usize);
-    let Some(name) = read_path(alloc, path)? else {
+    let Some(name) = PathText::read(path) else {
         return Err(ArchiveFault::BadField(ArchiveField::Name));
     };
-    let Some(head) = read_head(alloc, head)? else {
+    let Some(head) = HeadText::read(head) else {
         return Err(ArchiveFault::BadField(ArchiveField::Head));
     };
     let length = payload_length(
@@ -124,7 +139,7 @@ fn read_behind(alloc: Global, header: &Header, rest: &[u8]) -> Result<Archive, A
     let Some(stamp) = Stamp::make(header.stamp) else {
         return Err(ArchiveFault::BadField(ArchiveField::Stamp));
     };
-    Ok(Archive {
+    Ok(Spelled {
         k: u32::from(header.k),
         m: u32::from(header.m),
         index: u32::from(header.index),
@@ -134,6 +149,6 @@ fn read_behind(alloc: Global, header: &Header, rest: &[u8]) -> Result<Archive, A
         body_md5: header.body_md5,
         name,
         head,
-        payload: Bytes::from_slice(alloc, payload)?,
+        payload,
     })
 }

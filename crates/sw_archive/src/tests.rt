@@ -4,7 +4,8 @@ ghost use Rattle.std.specs.Prelude.{◌≡◌, ◌<◌, ◌≤◌, ◌∷◌, []
 
 use crate::ArchiveFault::{BadField, BadLength, BadMagic, BadVersion, Damaged, Short};
 use crate::{
-    Archive, ArchiveFault, ArchiveField, Assemble, AssembleFault, make_archive, read_archive,
+    Archive, ArchiveFault, ArchiveField, Assemble, AssembleFault, Spelled, check_archive,
+    make_archive, read_archive,
 };
 use md5::{Digest, Md5};
 use std::alloc::Global;
@@ -48,6 +49,11 @@ fn spelled(alloc: Global, bytes: &[u8]) -> Result<Archive, ArchiveFault> {
     read_archive(alloc, bytes)
 }
 
+// The same where it stands.
+fn checked(bytes: &[u8]) -> Result<Spelled<'_>, ArchiveFault> {
+    check_archive(bytes)
+}
+
 #[test]
 fn makes_the_worked_archives(rt: HostRuntime) -> Result<(), Fail> {
     let alloc = rt.alloc();
@@ -73,6 +79,21 @@ fn reads_the_worked_archive(rt: HostRuntime) -> Result<(), Fail> {
     assert_eq!(rt; archive.head().content_type(), TYPE.as_slice());
     assert!(rt; archive.head().pairs().is_empty());
     assert_eq!(rt; archive.payload(), b"ab".as_slice());
+    Ok(())
+}
+
+#[test]
+fn checks_the_worked_archive(rt: HostRuntime) -> Result<(), Fail> {
+    let alloc = rt.alloc();
+    let bytes = sealed(alloc, WORKED)?;
+    let found = checked(&bytes)?;
+    assert_eq!(rt; (found.k(), found.m(), found.index()), (2, 1, 0));
+    assert_eq!(rt; found.segment(), 1_048_576);
+    assert_eq!(rt; found.stamp().units(), 100_000_000_000_000);
+    assert_eq!(rt; found.path(), b"/a/c/o".as_slice());
+    assert!(rt; found.is_named(&Name::make(alloc, b"a", b"c", b"o")?));
+    assert!(rt; !found.is_named(&Name::make(alloc, b"a", b"c", b"p")?));
+    expect_numbers(&rt, &found.archive(alloc)?);
     Ok(())
 }
 
@@ -227,6 +248,7 @@ fn refuses_by_the_first_fault(rt: HostRuntime) -> Result<(), Fail> {
     for (edits, fault) in cases {
         let bytes = altered(&rt, alloc, WORKED, edits)?;
         assert_eq!(rt; spelled(alloc, &bytes).err(), Some(fault));
+        assert_eq!(rt; checked(&bytes).err(), Some(fault));
     }
     Ok(())
 }

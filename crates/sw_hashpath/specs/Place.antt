@@ -18,9 +18,13 @@ pub record IsHash (hash : List ℕ) : Type 0 where
   pub sixteen : length hash ≡ 16
   pub bytes : IsBytes hash
 
+-- the hash of a path, between a prefix and a suffix
+abbrev pub hash_of_path : List ℕ → List ℕ → List ℕ → List ℕ
+hash_of_path path prefix suffix = md5 (prefix ++ path ++ suffix)
+
 -- the hash of a name
 abbrev pub hash_of : NameModel → List ℕ → List ℕ → List ℕ
-hash_of name prefix suffix = md5 (prefix ++ path_of name ++ suffix)
+hash_of name prefix suffix = hash_of_path (path_of name) prefix suffix
 
 -- the partition of a hash, of 2^power: the highest bits of its first four bytes
 abbrev pub part_of : List ℕ → ℕ → ℕ

@@ -5,7 +5,7 @@ mod file_name;
 mod place;
 
 pub use crate::file_name::FileName;
-pub use crate::place::{Place, place_name, place_of, read_folder};
+pub use crate::place::{Place, place_name, place_of, place_path, read_folder};
 
 #[cfg(test)]
 mod tests;

@@ -2,7 +2,7 @@
 
 ghost use Rattle.std.specs.Prelude.{◌≡◌, ◌≢◌, ◌≤◌, ◌<◌, ◌^◌, ◌∷◌, ◌++◌, ◌↔◌, ℕ, List, IfOk, IfSome, IsTrue, MatchOption, string_bytes};
 ghost use Rattle.hex.specs.Hex.{encode_lower};
-ghost use Rattle.sw_hashpath.specs.Place.{IsHash, IsPlace, PlaceModel, folder_of, hash_of, place_of};
+ghost use Rattle.sw_hashpath.specs.Place.{IsHash, IsPlace, PlaceModel, folder_of, hash_of, hash_of_path, place_of};
 
 use md5::{Digest, Md5};
 use std::alloc::Global;
@@ -109,11 +109,21 @@ pub fn place_name(
     ensures below { IfOk result (λ place. place.part < 2 ^ power) }
 {
     let path = name.path(alloc)?;
+    Ok(place_path(path.as_slice(), prefix, suffix, power))
+}
+
+/// The place of a path, which is hashed between a prefix and a suffix. It takes no memory.
+pub fn place_path(path: &[u8], prefix: &[u8], suffix: &[u8], power: u32) -> Place
+    requires { power ≤ 16 }
+    ensures place { result ≡ place_of (hash_of_path path.now prefix.now suffix.now) power }
+    ensures right { IsPlace power result }
+    ensures below { result.part < 2 ^ power }
+{
     let mut hasher = Md5::new();
     hasher.update(prefix);
-    hasher.update(path.as_slice());
+    hasher.update(path);
     hasher.update(suffix);
-    Ok(place_of(hasher.finalize(), power))
+    place_of(hasher.finalize(), power)
 }
 
 /// The place whose folder this is, if it is one: the text is exactly what `folder` prints, and the partition is that of

@@ -85,6 +85,10 @@ fn hashes_a_path_between_prefix_and_suffix(rt: HostRuntime) -> Result<(), Fail> 
         let place = place_name(alloc, &name, prefix.as_bytes(), suffix.as_bytes(), 4)?;
         let hash = <[u8; 16] as FromHex>::from_hex(digits)?;
         assert_eq!(rt; place, place_of(hash, 4));
+        assert_eq!(rt;
+            place_path(b"/a/c/o", prefix.as_bytes(), suffix.as_bytes(), 4),
+            place
+        );
     }
     Ok(())
 }

@@ -5,9 +5,9 @@ use Rattle.std.specs.List.Sorted.{IsPermutation, IsStrictlyIncreasing}
 use Rattle.std.specs.Option.{ok_or, option_map_or}
 use Rattle.std.specs.Str.{is_utf8}
 use Rattle.serde_json.specs.Read.{read as read_text}
-use Rattle.sw_types.specs.Name.{NameModel}
+use Rattle.sw_types.specs.Name.{NameModel, path_of}
 use Rattle.sw_types.specs.Policy.{PolicyModel, policy_fault}
-use Rattle.sw_hashpath.specs.Place.{PlaceModel, hash_of, place_of}
+use Rattle.sw_hashpath.specs.Place.{PlaceModel, hash_of_path, place_of}
 use Rattle.sw_ring.specs.declared.device.Device.{Device}
 use Rattle.sw_ring.specs.declared.fault.RingFault.{RingFault}
 use Rattle.sw_ring.specs.declared.fault.RingFault.TheVariants.{NotJson}
@@ -45,9 +45,13 @@ pub record IsCluster (members : RingMembers) (cluster : ClusterModel) : Type 0 w
   pub devices : IsPermutation members.devices cluster.devices
   pub ascending : IsStrictlyIncreasing (ids_of cluster)
 
+-- the place of a path
+abbrev pub place_of_path : ClusterModel → List ℕ → PlaceModel
+place_of_path cluster path = place_of (hash_of_path path cluster.prefix cluster.suffix) cluster.part_power
+
 -- the place of a name
 abbrev pub place_of_name : ClusterModel → NameModel → PlaceModel
-place_of_name cluster name = place_of (hash_of name cluster.prefix cluster.suffix) cluster.part_power
+place_of_name cluster name = place_of_path cluster (path_of name)
 
 -- the devices of a partition, by index
 abbrev pub column_of : ClusterModel → ℕ → List ℕ

@@ -3,7 +3,8 @@
 ghost use Rattle.std.specs.Prelude.{◌≡◌, ◌+◌, ◌^◌, ◌<◌, ◌≤◌, ◌==◌, None, Ok, Err, IfErr, IfOk, position, slice_index};
 ghost use Rattle.sw_hashpath.specs.Place.{IsPlace};
 ghost use Rattle.sw_words.specs.Memory.{UnlessMemory};
-ghost use Rattle.sw_ring.specs.Cluster.{IsCluster, KeepsRules, column_of, handoffs_of, place_of_name, ring_of};
+ghost use Rattle.sw_types.specs.Name.{NameModel, path_of};
+ghost use Rattle.sw_ring.specs.Cluster.{IsCluster, KeepsRules, column_of, handoffs_of, place_of_name, place_of_path, ring_of};
 ghost use Rattle.sw_ring.specs.Members.{RingMembers};
 ghost use Rattle.sw_ring.specs.Reading.{members_seen, policy_numbers};
 ghost use Rattle.sw_ring.specs.Ring.{ring_fault};
@@ -16,7 +17,7 @@ use crate::rules::checked_policy;
 use crate::sorting::sort_by_id;
 use std::alloc::Global;
 use std::marker::Model;
-use sw_hashpath::{Place, place_name};
+use sw_hashpath::{Place, place_name, place_path};
 use sw_types::{Name, NoMemory, Policy};
 
 /// What a ring's text says, where it breaks no rule.
@@ -142,5 +143,17 @@ impl Cluster {
         let prefix = self.prefix.as_bytes();
         let suffix = self.suffix.as_bytes();
         place_name(alloc, name, prefix, suffix, self.part_power)
+    }
+
+    /// The place of the name whose path this is. It takes no memory.
+    pub fn place_of_path(&self, path: &[u8]) -> Place
+        ensures place { result ≡ place_of_path self.now path.now }
+        ensures named { (name : NameModel) → path.now ≡ path_of name → result ≡ place_of_name self.now name }
+        ensures right { IsPlace self.now.part_power result }
+        ensures below { result.part < 2 ^ self.now.part_power }
+    {
+        let prefix = self.prefix.as_bytes();
+        let suffix = self.suffix.as_bytes();
+        place_path(path, prefix, suffix, self.part_power)
     }
 }

@@ -64,6 +64,7 @@ fn places_a_name(rt: HostRuntime) -> Result<(), Fail> {
     // The MD5 of "ab/a/c/ocd" is ec42575aef098d2559c828f34ed26dda.
     assert_eq!(rt; place.part(), 1);
     assert_eq!(rt; place.hash()[0], 0xec);
+    assert_eq!(rt; cluster.place_of_path(b"/a/c/o"), place);
     Ok(())
 }
 

@@ -1,6 +1,7 @@
 mod Decimals
 pub mod Digits
 pub mod DigitsRead
+pub mod HeadForms
 pub mod HexTexts
 pub mod Names
 mod Pairs

@@ -1,5 +1,5 @@
 -- Heads of objects: a content type, and pairs of a name and a value.
-use Rattle.std.specs.Prelude.{ℕ, ◌+◌, ◌==◌, Bool, not, ◌&&◌, ◌||◌, if◌then◌else◌, nat_eq, nat_lt, nat_le, codes, List, [], ◌∷◌, ◌++◌, length, option_map, position, Option, Some, None}
+use Rattle.std.specs.Prelude.{◌≡◌, ◌<◌, ◌≤◌, ℕ, ◌+◌, ◌==◌, Bool, true, false, not, ◌&&◌, ◌||◌, if◌then◌else◌, nat_eq, nat_lt, nat_le, codes, List, [], ◌∷◌, ◌++◌, length, option_map, position, Option, Some, None}
 use Rattle.std.specs.Char.{is_ascii_digit, is_ascii_lowercase}
 use Rattle.std.specs.Cmp.Lexicographic.{pointwise}
 use Rattle.std.specs.List.{list_all, list_any, sum_by}
@@ -68,3 +68,10 @@ pairs_fault pairs =
 -- the first rule that a content type and pairs break
 abbrev pub head_fault : HeadModel → Option HeadFault
 head_fault head = option_or (if is_content_type head.content_type then None else Some ContentType) (pairs_fault head.pairs)
+
+-- a pair may stand behind these: there are not too many, it is in form, there is room for it, and its name is none of theirs
+pub record FitsBehind (earlier : List Pair) (pair : Pair) : Type 0 where
+  pub few : length earlier < greatest_pairs
+  pub form : (is_pair_name pair.0 && is_pair_value pair.1) ≡ true
+  pub small : overall earlier + (length pair.0 + length pair.1) ≤ greatest_overall
+  pub new : list_any (λ other. pointwise nat_eq other.0 pair.0) earlier ≡ false

@@ -1,6 +1,6 @@
 //! Heads of objects.
 
-ghost use Rattle.std.specs.Prelude.{◌≡◌, [], IfErr, IfOk, IfSome, Some, nat_eq, not, position};
+ghost use Rattle.std.specs.Prelude.{◌≡◌, ◌&&◌, [], IfErr, IfOk, IfSome, None, Some, nat_eq, not, position};
 ghost use Rattle.std.specs.Cmp.Lexicographic.{pointwise};
 ghost use Rattle.std.specs.List.{list_all, list_any};
 ghost use Rattle.sw_words.specs.Memory.{UnlessMemory};
@@ -66,6 +66,12 @@ impl Model for Head {
 }
 
 impl Head {
+    /// The greatest number of pairs.
+    pub const GREATEST_PAIRS: usize = 90;
+
+    /// The greatest number of bytes of all names and values.
+    pub const GREATEST_OVERALL: usize = 4096;
+
     /// The head of a content type and pairs, or the first rule that they break. It takes memory, and may answer
     /// `NoMemory`, only where none is broken.
     pub fn make(
@@ -79,17 +85,39 @@ impl Head {
             (head_fault (record { content_type = content_type.now; pairs = pairs.now }) ≡ Some fault)) }
         ensures refused { IfSome (head_fault (record { content_type = content_type.now; pairs = pairs.now })) (λ fault. result ≡ Err fault) }
     {
-        if !is_content_type(content_type) {
+        if !Head::is_content_type(content_type) {
             return Err(HeadFault::ContentType);
         }
         if let Some(fault) = pairs_fault(pairs) {
             return Err(fault);
         }
-        let head = Head {
-            content_type: Bytes::from_slice(alloc, content_type)?,
-            pairs: copies(alloc, pairs)?,
-        };
-        Ok(head)
+        let content_type = Bytes::from_slice(alloc, content_type)?;
+        Ok(Head::from_parts(content_type, copies(alloc, pairs)?))
+    }
+
+    /// The head of a content type and pairs that break no rule. It takes no memory.
+    pub fn from_parts(content_type: Bytes, pairs: Vec<(Bytes, Bytes)>) -> Head
+        requires { head_fault (record { content_type = content_type; pairs = pairs.items }) ≡ None }
+        ensures { result ≡ record { content_type = content_type; pairs = pairs.items } }
+    {
+        Head {
+            content_type,
+            pairs,
+        }
+    }
+
+    /// Whether a text has the form of a content type. It takes no memory.
+    pub fn is_content_type(text: &[u8]) -> bool
+        ensures { result ≡ is_content_type text.now }
+    {
+        !text.is_empty() && text.len() <= 256 && is_plain(text)
+    }
+
+    /// Whether two texts have the forms of a pair's name and value. It takes no memory.
+    pub fn is_pair(name: &[u8], value: &[u8]) -> bool
+        ensures { result ≡ (is_pair_name name.now && is_pair_value value.now) }
+    {
+        is_pair_name(name) && is_pair_value(value)
     }
 
     /// The content type.
@@ -127,12 +155,6 @@ fn is_plain(text: &[u8]) -> bool
 {
     text.iter()
         .all(|byte| !(*byte == 13 || *byte == 10 || *byte == 0))
-}
-
-fn is_content_type(text: &[u8]) -> bool
-    ensures { result ≡ is_content_type text.now }
-{
-    !text.is_empty() && text.len() <= 256 && is_plain(text)
 }
 
 fn is_name_byte(byte: u8) -> bool
@@ -211,7 +233,7 @@ fn repeated(pairs: &[(Bytes, Bytes)]) -> Option<usize>
 fn pairs_fault(pairs: &[(Bytes, Bytes)]) -> Option<HeadFault>
     ensures { result ≡ pairs_fault pairs.now }
 {
-    if pairs.len() > 90 {
+    if pairs.len() > Head::GREATEST_PAIRS {
         return Some(HeadFault::TooManyPairs);
     }
     if let Some(position) = odd_name(pairs) {
@@ -220,7 +242,7 @@ fn pairs_fault(pairs: &[(Bytes, Bytes)]) -> Option<HeadFault>
     if let Some(position) = odd_value(pairs) {
         return Some(HeadFault::PairValue(position));
     }
-    if overall(pairs) > 4096 {
+    if overall(pairs) > Head::GREATEST_OVERALL as u128 {
         return Some(HeadFault::Overall);
     }
     repeated(pairs).map(HeadFault::Twice)

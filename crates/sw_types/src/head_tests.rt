@@ -80,6 +80,9 @@ fn keeps_to_the_lengths(rt: HostRuntime) -> Result<(), Fail> {
         push(alloc, &mut pairs, &LONG[..name], &LONG[..value])?;
         let result = Head::make(alloc, &LONG[..content_type], &pairs);
         assert_eq!(rt; result.err(), fault, "{content_type} {name} {value}");
+        let has_forms = Head::is_content_type(&LONG[..content_type])
+            && Head::is_pair(&LONG[..name], &LONG[..value]);
+        assert_eq!(rt; has_forms, fault.is_none());
     }
     Ok(())
 }

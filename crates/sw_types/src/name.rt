@@ -4,6 +4,7 @@ ghost use Rattle.std.specs.Prelude.{◌≡◌, Some, None, IfOk, IfErr, IfSome, 
 ghost use Rattle.std.proofs.Common.{rules};
 ghost use Rattle.std.specs.Cmp.Rules.{comparing};
 ghost use Rattle.std.specs.List.{list_any};
+ghost use Rattle.std.specs.Result.{result_err};
 ghost use Rattle.std.specs.Str.{is_utf8};
 ghost use Rattle.sw_words.specs.Memory.{UnlessMemory};
 ghost use Rattle.sw_types.specs.declared.name.NameFault.TheVariants.{NoMemory as WantOfMemory};
@@ -147,11 +148,31 @@ impl Name {
             (name_fault (record { account = account.now; container = container.now; object = object.now }) ≡ Some fault)) }
         ensures refused { IfSome (name_fault (record { account = account.now; container = container.now; object = object.now })) (λ fault. result ≡ Err fault) }
     {
+        let (account, container, object) = Name::texts(account, container, object)?;
+        let name = Name::from_texts(alloc, account, container, object)?;
+        Ok(name)
+    }
+
+    /// The first fault of three parts: none where they are those of a name. It takes no memory.
+    pub fn fault(account: &[u8], container: &[u8], object: &[u8]) -> Option<NameFault>
+        ensures { result ≡ name_fault (record { account = account.now; container = container.now; object = object.now }) }
+    {
+        Name::texts(account, container, object).err()
+    }
+
+    // The texts of three parts, or their first fault.
+    fn texts<'a>(
+        account: &'a [u8],
+        container: &'a [u8],
+        object: &'a [u8],
+    ) -> Result<(&'a str, &'a str, &'a str), NameFault>
+        ensures fault { result_err result ≡ name_fault (record { account = account.now; container = container.now; object = object.now }) }
+        ensures texts { IfOk result (λ texts. (texts.0.now ≡ account.now) × (texts.1.now ≡ container.now) × (texts.2.now ≡ object.now)) }
+    {
         let account = Part::Account.read(account)?;
         let container = Part::Container.read(container)?;
         let object = Part::Object.read(object)?;
-        let name = Name::from_texts(alloc, account, container, object)?;
-        Ok(name)
+        Ok((account, container, object))
     }
 
     /// The account.
@@ -160,6 +181,22 @@ impl Name {
         ensures sound { name_fault self.now ≡ None }
     {
         &self.account
+    }
+
+    /// The container.
+    pub fn container(&self) -> &str
+        ensures text { result.now ≡ self.now.container }
+        ensures sound { name_fault self.now ≡ None }
+    {
+        &self.container
+    }
+
+    /// The object.
+    pub fn object(&self) -> &str
+        ensures text { result.now ≡ self.now.object }
+        ensures sound { name_fault self.now ≡ None }
+    {
+        &self.object
     }
 
     /// Its path, `/ACCOUNT/CONTAINER/OBJECT`.

@@ -111,6 +111,7 @@ fn names_the_first_fault(rt: HostRuntime) {
     for (account, container, object, want) in cases {
         let fault = Name::make(rt.alloc(), account, container, object).err();
         assert_eq!(rt; fault, want);
+        assert_eq!(rt; Name::fault(account, container, object), want);
     }
 }
 
@@ -118,6 +119,10 @@ fn names_the_first_fault(rt: HostRuntime) {
 fn compares_each_part_of_a_name(rt: HostRuntime) -> Result<(), Fail> {
     let alloc = rt.alloc();
     let name = Name::make(alloc, b"a", b"bc", b"o")?;
+    assert_eq!(rt;
+        (name.account(), name.container(), name.object()),
+        ("a", "bc", "o")
+    );
     assert_eq!(rt; name.clone()?, name);
     assert_eq!(rt; Name::make(alloc, b"a", b"bc", b"o")?, name);
     for (account, container, object) in [

@@ -1,37 +1,34 @@
-use Rattle.std.proofs.Common.{◌≡◌, ◌∙◌, Bool, true, not, sym, ap}
+use Rattle.std.proofs.Common.{◌≡◌, ◌≢◌, ◌∙◌, List, ℕ, length, Result, Ok, Err, refl, sym, ap, subst}
+use Rattle.std.specs.Prelude.{MatchResult}
 use Rattle.std.specs.List.{All}
-use Rattle.std.proofs.lemmas.Bool.{not-false}
+use Rattle.md5.specs.Md5.{md5}
+use Rattle.sw_types.specs.Object.{ObjectModel}
 use Rattle.sw_archive.specs.Archive.{ArchiveModel}
+use Rattle.sw_archive.specs.Assemble.{GivesObject, IsOther, IsTold}
+use Rattle.sw_archive.specs.Pieces.{IsDecoded}
+use Rattle.sw_archive.specs.declared.assemble.AssembleFault.{AssembleFault}
+use Rattle.sw_archive.specs.declared.assemble.AssembleFault.TheVariants.{BodyMd5}
 use Rattle.sw_archive.proofs.Objects.{alike_to_first}
-use Rattle.sw_archive.proofs.Decisions.{Decides-texts}
 use Rattle.sw_archive.proofs.assemble.object_of.Goals as goal
-use Rattle.sw_archive.proofs.assemble.object_of.Goals.{After-ne}
 
--- texts that pass as unequal are
-unequal : (test ne : Bool) → ne ≡ not test → ne ≡ true → test ≡ true → ⊥
-unequal test ne is_not passes same = absurd (cc)
+-- the object of archives, once its body is checked
+module _ (archives : List ArchiveModel) (object : ObjectModel) (told : List ℕ) (tells : All (λ (archive : ArchiveModel). told ≡ archive.body_md5) archives)
+    (head : All (λ (archive : ArchiveModel). object.head ≡ archive.head) archives) (long : All (λ (archive : ArchiveModel). length object.body ≡ archive.body_length) archives)
+    (decoded : IsDecoded archives object.body) where
+  is_told : told ≡ object.body_md5 → IsTold archives object
+  is_told same = record { head = head; length = long; body_md5 = λ position other below. sym same ∙ tells position other below; decoded = decoded }
 
--- each archive tells that MD5
-told : (c : After-ne) → All (λ (archive : ArchiveModel). c.body_md5-told.result ≡ archive.body_md5) c.args.archives.now
-told c = λ position other below.
-    c.body_md5-told.ensures ∙ ap (λ (a : ArchiveModel). a.body_md5) (alike_to_first c.args.archives.now c.index-archives-0.result c.requires.enough c.requires.together c.index-archives-0.is position other below)
+  is_other : told ≢ md5 object.body → GivesObject archives (Err (BodyMd5 told (md5 object.body)))
+  is_other differs = record { tells = tells; differs = differs; body = object.body; length = long; decoded = decoded; computes = refl }
 
-pub returns-then-ne : goal.returns-then-ne
-returns-then-ne c = record {
-  tells = told (goal.at.returns-then-ne c).After-ne;
-  differs = λ same. unequal _ c.ne.result c.ne.ensures c.if-ne.true ((Decides-texts c.body_md5-told.result c.body_md5-computed.result).1 same);
-  body = c.in_ok-object.object.body;
-  length = c.in_ok-object.ensures.length;
-  decoded = c.in_ok-object.ensures.decoded;
-  computes = c.body_md5-computed.ensures.value;
-}
+  gives : (result : Result ObjectModel AssembleFault)
+      → MatchResult result (λ checked. (checked ≡ object) × (told ≡ object.body_md5)) (λ fault. (fault ≡ BodyMd5 told (md5 object.body)) × (told ≢ md5 object.body)) → GivesObject archives result
+  gives (Ok checked) is = subst (IsTold archives) (sym is.0) (is_told is.1)
+  gives (Err fault) is = subst (λ (f : AssembleFault). GivesObject archives (Err f)) (sym is.0) (is_other is.1)
 
 pub returns : goal.returns
 returns c =
-    let same = (Decides-texts c.body_md5-told.result c.body_md5-computed.result).0 (not-false _ (sym c.ne.ensures ∙ c.if-ne.false)) in
-    record {
-      head = c.in_ok-object.ensures.head;
-      length = c.in_ok-object.ensures.length;
-      body_md5 = λ position other below. sym c.body_md5-computed.ensures.kept ∙ sym same ∙ told (goal.at.returns c).After-ne position other below;
-      decoded = c.in_ok-object.ensures.decoded;
-    }
+    gives c.args.archives.now c.in_ok-object.object c.body_md5.result
+    (λ position other below.
+    c.body_md5.ensures ∙ ap (λ (a : ArchiveModel). a.body_md5) (alike_to_first c.args.archives.now c.index-archives-0.result c.requires.enough c.requires.together c.index-archives-0.is position other below))
+    c.in_ok-object.ensures.head c.in_ok-object.ensures.length c.in_ok-object.ensures.decoded c.check_body.result c.check_body.ensures

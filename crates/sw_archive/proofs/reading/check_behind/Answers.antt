@@ -1,12 +1,11 @@
 use Rattle.std.proofs.Common.{rules, ◌≡◌, sym, subst}
 use Rattle.sw_words.specs.Bytes.{IsBytes}
 use Rattle.sw_words.proofs.ByteLists.{IsBytes-drop, IsBytes-take}
-use Rattle.sw_archive.proofs.reading.read_behind.Goals as goal
+use Rattle.sw_archive.proofs.reading.check_behind.Goals as goal
 
-pub invariant_of-result-3 : goal.invariant_of-result-3
-invariant_of-result-3 c =
+pub invariant_of-result : goal.invariant_of-result
+invariant_of-result c =
     let bytes : IsBytes c.args.rest.now = search rules in
-    let copied : c.in_ok-from_slice.field-0 ≡ c.split_at-3.result.0.now = search rules in
     let path = c.split_at.ensures.back in
     let head = c.split_at-2.ensures.back in
     let payload = c.split_at-3.ensures.front in
@@ -19,5 +18,5 @@ invariant_of-result-3 c =
       name = search rules;
       head = search rules;
       payload = search rules;
-      bytes = subst IsBytes (sym copied) (subst IsBytes (sym payload) (IsBytes-take _ _ (subst IsBytes (sym head) (IsBytes-drop _ _ (subst IsBytes (sym path) (IsBytes-drop _ _ bytes))))));
+      bytes = subst IsBytes (sym payload) (IsBytes-take _ _ (subst IsBytes (sym head) (IsBytes-drop _ _ (subst IsBytes (sym path) (IsBytes-drop _ _ bytes)))));
     }
