@@ -170,13 +170,13 @@ module _ (layout : Layout) (archives : List ArchiveModel) (done offset count wid
     next_reached = record { within = omega (arith, count_is); left = left_behind }
 
   -- What is made of the next segment's pieces stands behind what was made.
-  module _ (made_of : ℕ → List (List ℕ) → List ℕ) (part : ℕ → List ℕ → List ℕ) (made next : List ℕ) (pieces : List (List ℕ))
+  module _ (made_of : ℕ → List (List ℕ) → List ℕ) (part : ℕ → List ℕ → List ℕ) (made new : List ℕ) (pieces : List (List ℕ))
       (step : (n : ℕ) (first : List ℕ) (others : List (List ℕ)) → made_of n (first ∷ others) ≡ part (min size n) first ++ made_of (n - size) others)
-      (decodes : (first : List ℕ) → IsBytes first → length first ≡ k * fragment_width k count → HavePieces k offset (fragment_width k count) first archives → next ≡ part count first) where
+      (decodes : (first : List ℕ) → IsBytes first → length first ≡ k * fragment_width k count → HavePieces k offset (fragment_width k count) first archives → new ≡ made ++ part count first) where
     next_of : (others : List (List ℕ)) → ArePieces k size (total - done) others
         → All (λ archive. drop offset archive.payload ≡ joined_fragments k size (total - done) others archive.index) archives
         → made ++ made_of (total - done) others ≡ made_of total pieces
-        → AreLeft layout archives made_of (done + count) (offset + width) (made ++ next) pieces
+        → AreLeft layout archives made_of (done + count) (offset + width) new pieces
     next_of [] are payloads whole = absurd (omega (arith, are, more))
     next_of (first ∷ others) are payloads whole =
         let n : ℕ = total - done in
@@ -190,7 +190,7 @@ module _ (layout : Layout) (archives : List ArchiveModel) (done offset count wid
         let index : ℕ = (get_or archives position archive).index in
         ap (take (fragment_width k count)) (payloads position archive below) ∙ take_at (here index) (there index) (fragment_width k count) (wide index)
         ∙ ap (λ c. fragment k (fragment_width k c) first index) counted in
-        let this : next ≡ part count first = decodes first are.1 (are.2 ∙ ap (λ c. k * fragment_width k c) counted) have in
+        let this : new ≡ made ++ part count first = decodes first are.1 (are.2 ∙ ap (λ c. k * fragment_width k c) counted) have in
         record {
           others = others;
           are = subst (λ m. ArePieces k size m others) behind are.3;
@@ -198,11 +198,12 @@ module _ (layout : Layout) (archives : List ArchiveModel) (done offset count wid
               let at = get_or archives position archive in
               sym (drop-drop width offset at.payload) ∙ ap (drop width) (payloads position archive below)
               ∙ drop_at (here at.index) (there at.index) width (wide at.index ∙ sym width_is) ∙ ap (λ m. joined_fragments k size m others at.index) behind;
-          whole = append_assoc made next (made_of (total - (done + count)) others) ∙ ap (λ bytes. made ++ (bytes ++ made_of (total - (done + count)) others)) (this ∙ ap (λ c. part c first) count_is)
+          whole = ap (λ bytes. bytes ++ made_of (total - (done + count)) others) (this ∙ ap (λ c. made ++ part c first) count_is)
+              ∙ append_assoc made (part (min size n) first) (made_of (total - (done + count)) others)
               ∙ ap (λ m. made ++ (part (min size n) first ++ made_of m others)) (sym behind) ∙ ap (λ bytes. made ++ bytes) (sym (step n first others)) ∙ whole;
         }
 
-    pub next_left : AreLeft layout archives made_of done offset made pieces → AreLeft layout archives made_of (done + count) (offset + width) (made ++ next) pieces
+    pub next_left : AreLeft layout archives made_of done offset made pieces → AreLeft layout archives made_of (done + count) (offset + width) new pieces
     next_left left = next_of left.others left.are left.payloads left.whole
 
 -- where no byte is left, all was made

@@ -14,3 +14,5 @@ mod Paths
 mod Payloads
 mod Pieces
 mod Readings
+pub mod Sealed
+mod SideBySide

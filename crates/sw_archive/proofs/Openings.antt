@@ -36,6 +36,10 @@ pub opening-append : (h : HeaderModel) (x y : List ℕ) → opening h x ++ y ≡
 unfolding opening
 opening-append h x y = simp append_assoc
 
+pub length-opening_any : (h : HeaderModel) (x : List ℕ) → length (opening h x) ≡ length h.magic + length h.body_md5 + 32 + length x
+unfolding opening
+length-opening_any h x = simp length-append (omega arith)
+
 pub length-opening : (h : HeaderModel) (x : List ℕ) → IsHeader h → length (opening h x) ≡ 52 + length x
 unfolding opening
 length-opening h x fits = simp length-append (omega (arith, fits.magic, fits.body_md5))

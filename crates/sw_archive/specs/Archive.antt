@@ -44,6 +44,10 @@ header_of archive = record {
   payload_length = length archive.payload;
 }
 
+-- the bytes before the payload
+abbrev pub label_bytes : ArchiveModel → List ℕ
+label_bytes archive = opening (header_of archive) (path_of archive.name ++ head_bytes archive.head)
+
 -- all bytes before the last MD5
 abbrev pub checked : ArchiveModel → List ℕ
 checked archive = opening (header_of archive) (path_of archive.name ++ (head_bytes archive.head ++ archive.payload))

@@ -2,7 +2,7 @@
 use Rattle.std.specs.Prelude.{◌≡◌, ◌≢◌, ◌≤◌, ◌<◌, ℕ, ◌+◌, ◌-◌, List, ◌++◌, length, take, drop}
 use Rattle.std.specs.List.{All, AllPairs}
 use Rattle.sw_types.specs.Object.{greatest_body}
-use Rattle.sw_cauchy.specs.Share.{Share}
+use Rattle.sw_cauchy.specs.Share.{GatherModel, Share}
 use Rattle.sw_cauchy.specs.Stripe.{fragment}
 use Rattle.sw_archive.specs.Archive.{ArchiveModel, payload_length}
 use Rattle.sw_archive.specs.Pieces.{AreOfPieces, ArePieces, joined_fragments}
@@ -19,6 +19,10 @@ pub record AreLaidOut (layout : Layout) (archives : List ArchiveModel) : Type 0 
   pub count : length archives ≡ layout.code.k
   pub alike : All (λ archive. (archive.k ≡ layout.code.k) × (archive.m ≡ layout.code.m) × (archive.segment ≡ layout.size) × (archive.body_length ≡ layout.total)) archives
   pub distinct : AllPairs (λ a b. a.index ≢ b.index) archives
+
+-- a gather is of the layout's code
+abbrev pub HasCode : Layout → GatherModel → Type 0
+HasCode layout gather = (gather.k ≡ layout.code.k) × (gather.m ≡ layout.code.m)
 
 -- so many bytes of a payload, with the archive's index
 abbrev pub share_at : ℕ → ℕ → ArchiveModel → Share

@@ -1,14 +1,15 @@
 -- The archives of an object that is put.
-use Rattle.std.specs.Prelude.{◌≡◌, ℕ, ◌≤◌, List, length, map, None}
+use Rattle.std.specs.Prelude.{◌≡◌, ℕ, ◌+◌, ◌≤◌, List, length, map, None}
 use Rattle.std.specs.Fork.{slice_chunk}
 use Rattle.std.specs.List.{All, flat_map, range_with_len}
 use Rattle.std.specs.Slice.Iter.{chunk_count}
+use Rattle.md5.specs.Md5.{md5}
 use Rattle.sw_types.specs.Name.{NameModel, name_fault}
 use Rattle.sw_types.specs.Object.{IsObject, ObjectModel}
 use Rattle.sw_types.specs.Policy.{PolicyModel, policy_fault}
 use Rattle.sw_types.specs.Stamp.{greatest_stamp}
 use Rattle.sw_cauchy.specs.Stripe.{segment_fragment}
-use Rattle.sw_archive.specs.Archive.{ArchiveModel, archive_bytes}
+use Rattle.sw_archive.specs.Archive.{ArchiveModel, archive_bytes, checked, label_bytes}
 
 -- the segments of a body, each of so many bytes, the last one shorter where need be; an empty body has none
 abbrev pub segments : ℕ → List ℕ → List (List ℕ)
@@ -33,9 +34,20 @@ put_fields policy stamp name object index = record {
   payload = payload policy.k policy.segment object.body index;
 }
 
+-- its bytes before the payload
+abbrev pub put_label : PolicyModel → ℕ → NameModel → ObjectModel → ℕ → List ℕ
+put_label policy stamp name object index = label_bytes (put_fields policy stamp name object index)
+
 -- the archive of an index of a put
 abbrev pub put_archive : PolicyModel → ℕ → NameModel → ObjectModel → ℕ → List ℕ
 put_archive policy stamp name object index = archive_bytes (put_fields policy stamp name object index)
+
+-- the MD5 that ends it, and those of all archives of a put, by index
+abbrev pub put_seal : PolicyModel → ℕ → NameModel → ObjectModel → ℕ → List ℕ
+put_seal policy stamp name object index = md5 (checked (put_fields policy stamp name object index))
+
+abbrev pub put_seals : PolicyModel → ℕ → NameModel → ObjectModel → List (List ℕ)
+put_seals policy stamp name object = map (put_seal policy stamp name object) (range_with_len 0 (policy.k + policy.m))
 
 -- what is put: under a policy, at a stamp, a name and an object
 pub record IsPut (policy : PolicyModel) (stamp : ℕ) (name : NameModel) (object : ObjectModel) : Type 0 where

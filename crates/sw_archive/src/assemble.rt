@@ -189,7 +189,7 @@ fn archive_of(alloc: Global, archives: &[Archive], index: u32) -> Result<Bytes, 
         name: first.name(),
         head: first.head(),
     };
-    let mut bytes = label.open(alloc)?;
+    let mut bytes = label.open(alloc, first.payload().len() + 16)?;
     rebuild_payload(alloc, &mut bytes, archives, index)?;
     seal(bytes)
 }

@@ -1,12 +1,12 @@
 //! Bodies and payloads are decoded from archives, segment by segment.
 
-ghost use Rattle.std.specs.Prelude.{◌≡◌, ◌+◌, ◌*◌, ◌<◌, ◌≤◌, List, ℕ, IfOk, OnOk, length, map, take};
+ghost use Rattle.std.specs.Prelude.{◌≡◌, ◌+◌, ◌*◌, ◌<◌, ◌≤◌, ◌++◌, List, ℕ, IfOk, OnOk, length, map, take};
 ghost use Rattle.std.specs.List.{All};
 ghost use Rattle.sw_words.specs.Bytes.{IsBytes};
 ghost use Rattle.sw_types.specs.Object.{greatest_body};
 ghost use Rattle.sw_cauchy.specs.Stripe.{fragment, fragment_width};
 ghost use Rattle.sw_archive.specs.Assemble.{AreEnough, AreTogether};
-ghost use Rattle.sw_archive.specs.Decoding.{AreLaidOut, HavePieces, IsRebuilt, laid_length, share_at};
+ghost use Rattle.sw_archive.specs.Decoding.{AreLaidOut, HasCode, HavePieces, IsRebuilt, laid_length, share_at};
 ghost use Rattle.sw_archive.specs.Pieces.{IsDecoded};
 
 use crate::archive::Archive;
@@ -31,12 +31,14 @@ pub(crate) fn decode_body(alloc: Global, archives: &[Archive]) -> Result<Bytes, 
     ensures decoded { IfOk result (IsDecoded archives.now) }
 {
     let layout = layout_of(archives);
-    let mut body = Vec::with_capacity(alloc, layout.total)?;
+    let mut gather = Gather::new(alloc, layout.code, 0)?;
+    // The zeros behind the last segment stand in the body until that segment is cut.
+    let room = layout.total + layout.code.k as usize;
+    let mut body = Vec::with_capacity(alloc, room)?;
     let mut offset = 0;
     'segments: while body.len() < layout.total {
         let count = layout.size.min(layout.total - body.len());
-        let segment = decode_segment(alloc, archives, layout, offset, count)?;
-        body.extend_from_slice(segment.as_slice())?;
+        push_segment(&mut body, &mut gather, archives, layout, offset, count)?;
         offset += layout.code.fragment_width(count);
     }
     Ok(Bytes::from(body))
@@ -55,11 +57,20 @@ pub(crate) fn rebuild_payload(
     ensures { OnOk result (IsRebuilt archives.now index out.old.items out.new.items) }
 {
     let layout = layout_of(archives);
+    let mut gather = Gather::new(alloc, layout.code, 0)?;
     let mut done = 0;
     let mut offset = 0;
     'segments: while done < layout.total {
         let count = layout.size.min(layout.total - done);
-        let fragment = rebuild_fragment(alloc, archives, layout, offset, count, index)?;
+        let fragment = rebuild_fragment(
+            alloc,
+            &mut gather,
+            archives,
+            layout,
+            offset,
+            count,
+            index,
+        )?;
         out.extend_from_slice(fragment.as_slice())?;
         offset += fragment.len();
         done += count;
@@ -81,29 +92,32 @@ fn layout_of(archives: &[Archive]) -> Layout
     }
 }
 
-// The segment of so many bytes whose fragments stand there in the payloads.
-fn decode_segment(
-    alloc: Global,
+// Adds the segment of so many bytes whose fragments stand there in the payloads.
+fn push_segment(
+    out: &mut Vec<u8>,
+    gather: &mut Gather,
     archives: &[Archive],
     layout: Layout,
     offset: usize,
     count: usize,
-) -> Result<Bytes, NoMemory>
+) -> Result<(), NoMemory>
     requires laid_out { AreLaidOut layout archives.now }
+    requires code { HasCode layout gather.old }
     requires reach { offset + fragment_width layout.code.k count ≤ laid_length layout }
-    ensures length { IfOk result (λ segment. length segment ≡ count) }
+    ensures code { OnOk result (HasCode layout gather.new) }
+    ensures length { OnOk result (length out.new.items ≡ length out.old.items + count) }
     ensures decoded { let width = fragment_width layout.code.k count in
         (pieces : List ℕ) → IsBytes pieces → length pieces ≡ layout.code.k * width → HavePieces layout.code.k offset width pieces archives.now →
-        IfOk result (λ segment. segment ≡ take count pieces) }
+        OnOk result (out.new.items ≡ out.old.items ++ take count pieces) }
 {
-    let width = layout.code.fragment_width(count);
-    let gather = gather_fragments(alloc, archives, layout, offset, width)?;
-    gather.finish(alloc, count)
+    gather_fragments(gather, archives, layout, offset, count)?;
+    gather.push_segment(out, count)
 }
 
 // The fragment of an index of that segment.
 fn rebuild_fragment(
     alloc: Global,
+    gather: &mut Gather,
     archives: &[Archive],
     layout: Layout,
     offset: usize,
@@ -111,33 +125,38 @@ fn rebuild_fragment(
     index: u32,
 ) -> Result<Bytes, NoMemory>
     requires laid_out { AreLaidOut layout archives.now }
+    requires code { HasCode layout gather.old }
     requires reach { offset + fragment_width layout.code.k count ≤ laid_length layout }
     requires index { index < layout.code.k + layout.code.m }
+    ensures code { OnOk result (HasCode layout gather.new) }
     ensures length { IfOk result (λ fragment. length fragment ≡ fragment_width layout.code.k count) }
     ensures decoded { let width = fragment_width layout.code.k count in
         (pieces : List ℕ) → IsBytes pieces → length pieces ≡ layout.code.k * width → HavePieces layout.code.k offset width pieces archives.now →
         IfOk result (λ bytes. bytes ≡ fragment layout.code.k width pieces index) }
 {
-    let width = layout.code.fragment_width(count);
-    let gather = gather_fragments(alloc, archives, layout, offset, width)?;
+    gather_fragments(gather, archives, layout, offset, count)?;
     gather.rebuild(alloc, index)
 }
 
-// The bytes of that many that stand there in each payload.
+// Gathers the fragments of a segment of so many bytes, which stand there in the payloads, anew. The indices and their order
+// are the same for each segment, so that the gather inverts their rows once.
 fn gather_fragments(
-    alloc: Global,
+    gather: &mut Gather,
     archives: &[Archive],
     layout: Layout,
     offset: usize,
-    width: usize,
-) -> Result<Gather, NoMemory>
+    count: usize,
+) -> Result<(), NoMemory>
     requires laid_out { AreLaidOut layout archives.now }
-    requires reach { offset + width ≤ laid_length layout }
-    ensures { IfOk result (λ gather. gather ≡ record { k = layout.code.k; m = layout.code.m; width = width; shares = map (share_at offset width) archives.now }) }
+    requires code { HasCode layout gather.old }
+    requires reach { offset + fragment_width layout.code.k count ≤ laid_length layout }
+    ensures { let width = fragment_width layout.code.k count in
+        OnOk result (gather.new ≡ record { k = layout.code.k; m = layout.code.m; width = width; shares = map (share_at offset width) archives.now }) }
 {
-    let mut gather = Gather::new(alloc, layout.code, width)?;
+    let width = layout.code.fragment_width(count);
+    gather.again(width)?;
     for archive in archives {
         gather.add(archive.index(), &archive.payload()[offset..offset + width]);
     }
-    Ok(gather)
+    Ok(())
 }

@@ -1,9 +1,9 @@
 //! What an archive tells of its payload.
 
-ghost use Rattle.std.specs.Prelude.{◌≡◌, ◌+◌, ◌<◌, ◌≤◌, ◌^◌, ◌++◌, List, ℕ, IfOk, length};
+ghost use Rattle.std.specs.Prelude.{◌≡◌, ◌+◌, ◌<◌, ◌≤◌, ◌++◌, List, ℕ, IfOk, length};
 ghost use Rattle.md5.specs.Md5.{md5};
 ghost use Rattle.sw_types.specs.Object.{greatest_body};
-ghost use Rattle.sw_archive.specs.Archive.{checked, payload_length};
+ghost use Rattle.sw_archive.specs.Archive.{label_bytes, payload_length};
 ghost use Rattle.sw_archive.specs.Label.{header_told, labelled};
 
 use crate::header::Header;
@@ -28,18 +28,19 @@ pub(crate) struct Label<'a> {
 }
 
 impl Label<'_> {
-    /// The bytes of an archive before its payload, with room for the whole archive.
-    pub(crate) fn open(&self, alloc: Global) -> Result<Vec<u8>, NoMemory>
+    /// The bytes of an archive before its payload, with room for so many more.
+    pub(crate) fn open(&self, alloc: Global, room: usize) -> Result<Vec<u8>, NoMemory>
         requires some { 0 < self.now.segment }
         requires index { self.now.index < self.now.code.k + self.now.code.m }
         requires within { self.now.body_length ≤ greatest_body }
         ensures { (payload : List ℕ) → length payload ≡ payload_length self.now.code.k self.now.segment self.now.body_length →
-            IfOk result (λ bytes. bytes.items ++ payload ≡ checked (labelled self.now payload)) }
+            IfOk result (λ bytes. bytes.items ≡ label_bytes (labelled self.now payload)) }
     {
         let path = self.name.path(alloc)?;
         let head = head_bytes(alloc, self.head)?;
         let header = self.header(path.len() as u16, head.len() as u16);
-        let mut bytes = Vec::with_capacity(alloc, header.told_length())?;
+        let length = 52 + usize::from(header.path_length) + usize::from(header.head_length);
+        let mut bytes = Vec::with_capacity(alloc, length.saturating_add(room))?;
         header.write(&mut bytes)?;
         bytes.extend_from_slice(path.as_slice())?;
         bytes.extend_from_slice(&head)?;
@@ -72,10 +73,17 @@ impl Label<'_> {
 }
 
 /// The bytes, and their MD5 behind them.
-pub(crate) fn seal(mut bytes: Vec<u8>) -> Result<Bytes, NoMemory>
+pub(crate) fn seal(bytes: Vec<u8>) -> Result<Bytes, NoMemory>
     ensures { IfOk result (λ sealed. sealed ≡ bytes.items ++ md5 bytes.items) }
 {
-    let digest = Md5::digest(bytes.as_slice());
-    bytes.extend_from_slice(&digest)?;
+    let md5 = Md5::digest(bytes.as_slice());
+    seal_with(bytes, md5)
+}
+
+/// The bytes, and an MD5 behind them.
+pub(crate) fn seal_with(mut bytes: Vec<u8>, md5: [u8; 16]) -> Result<Bytes, NoMemory>
+    ensures { IfOk result (λ sealed. sealed ≡ bytes.items ++ md5) }
+{
+    bytes.extend_from_slice(&md5)?;
     Ok(Bytes::from(bytes))
 }

@@ -15,14 +15,16 @@ mod parts;
 mod path_text;
 mod payload;
 mod reading;
+mod sealing;
 mod spelled;
 
 pub use crate::archive::Archive;
 pub use crate::assemble::{Assemble, AssembleFault};
 pub use crate::fault::{ArchiveFault, ArchiveField};
 pub use crate::laws::{archive_law, assemble_law, fault_law, pieces_law, put_law};
-pub use crate::making::make_archive;
+pub use crate::making::{make_archive, make_sealed_archive};
 pub use crate::reading::{check_archive, read_archive};
+pub use crate::sealing::seals;
 pub use crate::spelled::Spelled;
 
 #[cfg(test)]

@@ -5,7 +5,7 @@ ghost use Rattle.std.specs.Prelude.{◌≡◌, ◌<◌, ◌≤◌, ◌∷◌, []
 use crate::ArchiveFault::{BadField, BadLength, BadMagic, BadVersion, Damaged, Short};
 use crate::{
     Archive, ArchiveFault, ArchiveField, Assemble, AssembleFault, Spelled, check_archive,
-    make_archive, read_archive,
+    make_archive, make_sealed_archive, read_archive, seals,
 };
 use md5::{Digest, Md5};
 use std::alloc::Global;
@@ -42,6 +42,35 @@ fn made(alloc: Global, segment: u32, units: u64, body: &[u8], index: u32) -> Res
     let body = Bytes::from_slice(alloc, body)?;
     let object = Object::make(head, body).ok().ok_or("too long")?;
     Ok(make_archive(alloc, &policy, stamp, &name, &object, index)?)
+}
+
+// The same, with the MD5s of all its archives computed first.
+fn made_with_seals(alloc: Global, units: u64, body: &[u8], index: u32) -> Result<Bytes, Fail>
+    requires { index < 3 }
+{
+    let policy = Policy::make(2, 1, 3, 2, 4)?;
+    let stamp = Stamp::make(units).ok_or("stamp")?;
+    let name = Name::make(alloc, b"a", b"c", b"o")?;
+    let head = Head::make(alloc, TYPE, &[])?;
+    let body = Bytes::from_slice(alloc, body)?;
+    let object = Object::make(head, body).ok().ok_or("too long")?;
+    let md5s = seals(alloc, &policy, stamp, &name, &object)?;
+    let md5 = md5s[index as usize];
+    Ok(make_sealed_archive(alloc, &policy, stamp, &name, &object, index, md5)?)
+}
+
+#[test]
+fn makes_archives_with_their_md5s_in_hand(rt: HostRuntime) -> Result<(), Fail> {
+    let alloc = rt.alloc();
+    let bodies: [&[u8]; 3] = [b"", b"abc", b"\x00\x01\x02\x03\x04\x05\x06\x07\x08"];
+    for body in bodies {
+        for index in 0..3u32 {
+            let alone = made(alloc, 4, 7, body, index)?;
+            let together = made_with_seals(alloc, 7, body, index)?;
+            assert_eq!(rt; together.as_slice(), alone.as_slice());
+        }
+    }
+    Ok(())
 }
 
 // What the bytes spell, or why they are no archive. Nothing is promised of it, which keeps the proofs of the tests short.

@@ -1,6 +1,6 @@
 //! Fragments gathered to decode a segment.
 
-ghost use Rattle.std.specs.Prelude.{◌≡◌, ◌≢◌, ◌+◌, ◌*◌, ◌<◌, List, ℕ, [], ◌∷◌, ◌++◌, IfOk, IfErr, length, take};
+ghost use Rattle.std.specs.Prelude.{◌≡◌, ◌≢◌, ◌+◌, ◌*◌, ◌<◌, List, ℕ, [], ◌∷◌, ◌++◌, IfOk, IfErr, OnOk, length, take};
 ghost use Rattle.std.specs.List.{All};
 ghost use Rattle.sw_words.specs.Bytes.{IsBytes};
 ghost use Rattle.sw_cauchy.specs.Share.{AreFragments};
@@ -8,7 +8,7 @@ ghost use Rattle.sw_cauchy.specs.Stripe.{fragment, fragment_width};
 
 use crate::Code;
 use crate::decode::Decoder;
-use crate::rows::{matrix_times, row_times};
+use crate::rows::{push_matrix_times, push_row_times};
 use std::alloc::Global;
 use std::marker::Model;
 use sw_types::{Bytes, NoMemory, Policy};
@@ -90,11 +90,26 @@ impl Gather {
             AreFragments self.now.k self.now.width pieces self.now.shares →
             IfOk result (λ segment. segment ≡ take segment_length pieces) }
     {
+        let mut segment = Vec::new(alloc);
+        self.push_segment(&mut segment, segment_length)?;
+        Ok(Bytes::from(segment))
+    }
+
+    /// Adds the segment of so many bytes whose fragments were gathered. It takes no memory where there is room for k fragments.
+    pub fn push_segment(&self, out: &mut Vec<u8>, segment_length: usize) -> Result<(), NoMemory>
+        requires enough { length self.now.shares ≡ self.now.k }
+        requires fits { fragment_width self.now.k segment_length ≡ self.now.width }
+        ensures length { OnOk result (length out.new.items ≡ length out.old.items + segment_length) }
+        ensures decoded { (pieces : List ℕ) → IsBytes pieces → length pieces ≡ self.now.k * self.now.width →
+            AreFragments self.now.k self.now.width pieces self.now.shares →
+            OnOk result (out.new.items ≡ out.old.items ++ take segment_length pieces) }
+    {
         let k = self.code.k as usize;
-        let matrix = &self.decoder.matrix;
-        let mut pieces = matrix_times(alloc, k, matrix, &self.bytes, self.width)?;
-        pieces.truncate(segment_length);
-        Ok(Bytes::from(pieces))
+        let start = out.len();
+        out.reserve(self.bytes.len())?;
+        push_matrix_times(out, k, &self.decoder.matrix, &self.bytes, self.width)?;
+        out.truncate(start + segment_length);
+        Ok(())
     }
 
     /// The fragment of an index, gathered or not.
@@ -110,6 +125,8 @@ impl Gather {
         let mut room = [0; Policy::GREATEST_TOTAL as usize];
         let row = &mut room[..self.code.k as usize];
         self.code.write_fragment(row, &self.decoder.matrix, index);
-        row_times(alloc, row, &self.bytes, self.width)
+        let mut fragment = Vec::new(alloc);
+        push_row_times(&mut fragment, row, &self.bytes, self.width)?;
+        Ok(Bytes::from(fragment))
     }
 }

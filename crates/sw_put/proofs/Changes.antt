@@ -1,8 +1,8 @@
 -- A put that handed out a message, took an answer, or ended.
-use Rattle.std.proofs.Common.{◌≡◌, ℕ, ◌+◌, ◌*◌, ◌≤◌, ◌<◌, ◌==◌, Bool, List, [], ◌∷◌, ◌++◌, append-nil, get_or, length, map, Option, Some, None, sym, ap, subst, ◌∙◌, arith}
+use Rattle.std.proofs.Common.{◌≡◌, ℕ, ◌+◌, ◌*◌, ◌≤◌, ◌<◌, ◌==◌, Bool, List, [], ◌∷◌, ◌++◌, append-nil, length, map, Option, Some, None, sym, ap, subst, ◌∙◌, arith}
 use Rattle.std.specs.List.{find, slice_get}
-use Rattle.std.proofs.lemmas.List.FromFn.{get_or-map-range_with_len, length-map-range_with_len}
 use Rattle.std.proofs.lemmas.Option.{none-some, same_Some}
+use Rattle.sw_types.specs.Policy.{PolicyModel}
 use Rattle.sw_archive.specs.Put.{put_archive}
 use Rattle.sw_message.specs.Tickets.{AreTickets}
 use Rattle.sw_message.specs.Transcript.{Gave, Hand, Step, Told, open_at, told}
@@ -68,24 +68,19 @@ module _ (put : PutModel) (begun : Begun) (past : List Step) (stands : Stands pu
 
   -- ---- a message
 
-  -- the archive of an index
-  archive_is : (index : ℕ) → index < begun.cluster.policy.k + begun.cluster.policy.m
-      → get_or put.archives index [] ≡ put_archive begun.cluster.policy begun.stamp begun.name begun.object index
-  archive_is index below =
-      ap (λ these. get_or these index []) stands.archives_are
-      ∙ get_or-map-range_with_len (put_archive begun.cluster.policy begun.stamp begun.name begun.object) 0 (begun.cluster.policy.k + begun.cluster.policy.m) index index [] below (omega arith)
+  -- an index is below the code's
+  pub index_below : (target : Target) → target.index < begun.cluster.policy.k + begun.cluster.policy.m → target.index < put.policy.k + put.policy.m
+  index_below target below = subst (λ (policy : PolicyModel). target.index < policy.k + policy.m) (sym stands.policy_is) below
 
-  pub archives_length : length put.archives ≡ begun.cluster.policy.k + begun.cluster.policy.m
-  archives_length =
-      ap length stands.archives_are ∙ length-map-range_with_len (put_archive begun.cluster.policy begun.stamp begun.name begun.object) 0 (begun.cluster.policy.k + begun.cluster.policy.m)
-
-  pub fragment_is : (target : Target) (msg : Msg) → target.index < begun.cluster.policy.k + begun.cluster.policy.m → msg ≡ PutFrag put.place put.stamp target.index (get_or put.archives target.index [])
+  pub fragment_is : (target : Target) (msg : Msg) → msg ≡ PutFrag put.place put.stamp target.index (put_archive put.policy put.stamp put.name put.object target.index)
       → (ticket : ℕ) → put_message begun ticket (StoreAt target) ≡ record { ticket = ticket; device = target.device; msg = msg }
-  fragment_is target msg below is ticket =
+  fragment_is target msg is ticket =
       let sent : Msg → Sent = λ msg. record { ticket = ticket; device = target.device; msg = msg } in
       ap (λ place. sent (PutFrag place begun.stamp target.index (put_archive begun.cluster.policy begun.stamp begun.name begun.object target.index))) (sym stands.place_is)
-      ∙ ap (λ stamp. sent (PutFrag put.place stamp target.index (put_archive begun.cluster.policy begun.stamp begun.name begun.object target.index))) (sym stands.stamp_is)
-      ∙ ap (λ bytes. sent (PutFrag put.place put.stamp target.index bytes)) (sym (archive_is target.index below))
+      ∙ ap (λ stamp. sent (PutFrag put.place stamp target.index (put_archive begun.cluster.policy stamp begun.name begun.object target.index))) (sym stands.stamp_is)
+      ∙ ap (λ policy. sent (PutFrag put.place put.stamp target.index (put_archive policy put.stamp begun.name begun.object target.index))) (sym stands.policy_is)
+      ∙ ap (λ name. sent (PutFrag put.place put.stamp target.index (put_archive put.policy put.stamp name begun.object target.index))) (sym stands.name_is)
+      ∙ ap (λ object. sent (PutFrag put.place put.stamp target.index (put_archive put.policy put.stamp put.name object target.index))) (sym stands.object_is)
       ∙ ap sent (sym is)
 
   pub stands_handed : (flags : List Bool) (sent : Sent) → AreTickets flags (Gave sent ∷ past) → put_next begun past ≡ Hand sent → Stands (record put { tickets = flags }) begun (Gave sent ∷ past)
@@ -95,8 +90,10 @@ module _ (put : PutModel) (begun : Begun) (past : List Step) (stands : Stands pu
     enough_stored_is = stands.enough_stored_is;
     enough_committed_is = stands.enough_committed_is;
     place_is = stands.place_is;
+    policy_is = stands.policy_is;
     stamp_is = stands.stamp_is;
-    archives_are = stands.archives_are;
+    name_is = stands.name_is;
+    object_is = stands.object_is;
     primaries_are = stands.primaries_are;
     handoffs_are = stands.handoffs_are;
     stores_are = stands.stores_are;
@@ -123,8 +120,10 @@ module _ (put : PutModel) (begun : Begun) (past : List Step) (stands : Stands pu
         enough_stored_is = stands.enough_stored_is;
         enough_committed_is = stands.enough_committed_is;
         place_is = stands.place_is;
+        policy_is = stands.policy_is;
         stamp_is = stands.stamp_is;
-        archives_are = stands.archives_are;
+        name_is = stands.name_is;
+        object_is = stands.object_is;
         primaries_are = stands.primaries_are;
         handoffs_are = stands.handoffs_are;
         stores_are = stands.stores_are;
@@ -176,8 +175,10 @@ module _ (put : PutModel) (begun : Begun) (past : List Step) (stands : Stands pu
           enough_stored_is = stands.enough_stored_is;
           enough_committed_is = stands.enough_committed_is;
           place_is = stands.place_is;
+          policy_is = stands.policy_is;
           stamp_is = stands.stamp_is;
-          archives_are = stands.archives_are;
+          name_is = stands.name_is;
+          object_is = stands.object_is;
           primaries_are = stands.primaries_are;
           handoffs_are = stands.handoffs_are;
           stores_are = stored ∙ ap (λ (one : Sent). counts_of (stores (Told one answer ∷ past))) (sym message);
@@ -217,8 +218,10 @@ module _ (put : PutModel) (begun : Begun) (past : List Step) (stands : Stands pu
           enough_stored_is = stands.enough_stored_is;
           enough_committed_is = stands.enough_committed_is;
           place_is = stands.place_is;
+          policy_is = stands.policy_is;
           stamp_is = stands.stamp_is;
-          archives_are = stands.archives_are;
+          name_is = stands.name_is;
+          object_is = stands.object_is;
           primaries_are = stands.primaries_are;
           handoffs_are = stands.handoffs_are;
           stores_are = stands.stores_are ∙ ap counts_of (sym (append-nil (stores past))) ∙ ap (λ (one : Sent). counts_of (stores (Told one answer ∷ past))) (sym message);
@@ -241,8 +244,10 @@ module _ (put : PutModel) (begun : Begun) (past : List Step) (stands : Stands pu
     enough_stored_is = stands.enough_stored_is;
     enough_committed_is = stands.enough_committed_is;
     place_is = stands.place_is;
+    policy_is = stands.policy_is;
     stamp_is = stands.stamp_is;
-    archives_are = stands.archives_are;
+    name_is = stands.name_is;
+    object_is = stands.object_is;
     primaries_are = stands.primaries_are;
     handoffs_are = stands.handoffs_are;
     stores_are = stands.stores_are;

@@ -1,7 +1,8 @@
 -- What contracts see of a put, and the transcripts that it stands for.
-use Rattle.std.specs.Prelude.{◌≡◌, ℕ, ◌+◌, ◌*◌, Bool, List, length, map, Option, Some}
-use Rattle.std.specs.List.{range_with_len}
-use Rattle.sw_archive.specs.Put.{put_archive}
+use Rattle.std.specs.Prelude.{◌≡◌, ℕ, ◌+◌, ◌*◌, Bool, List, length, Option, Some}
+use Rattle.sw_types.specs.Name.{NameModel}
+use Rattle.sw_types.specs.Object.{ObjectModel}
+use Rattle.sw_types.specs.Policy.{PolicyModel}
 use Rattle.sw_hashpath.specs.Place.{PlaceModel}
 use Rattle.sw_message.specs.Tickets.{AreTickets}
 use Rattle.sw_message.specs.Transcript.{IsRun, Step}
@@ -15,8 +16,10 @@ pub record PutModel : Type 0 where
   pub enough_stored : ℕ
   pub enough_committed : ℕ
   pub place : PlaceModel
+  pub policy : PolicyModel
   pub stamp : ℕ
-  pub archives : List (List ℕ)
+  pub name : NameModel
+  pub object : ObjectModel
   pub primaries : List ℕ
   pub handoffs : List ℕ
   pub stores : Counts Target
@@ -25,10 +28,6 @@ pub record PutModel : Type 0 where
   pub tickets : List Bool
   pub end : Option PutEnd
 
--- the archive of each index
-abbrev pub archives_of : Begun → List (List ℕ)
-archives_of begun = map (put_archive begun.cluster.policy begun.stamp begun.name begun.object) (range_with_len 0 (begun.cluster.policy.k + begun.cluster.policy.m))
-
 -- a put stands for each transcript of its machine that leads to its state
 pub record Stands (put : PutModel) (begun : Begun) (past : List Step) : Type 0 where
   pub valid : IsBegun begun
@@ -36,8 +35,10 @@ pub record Stands (put : PutModel) (begun : Begun) (past : List Step) : Type 0 w
   pub enough_stored_is : put.enough_stored ≡ begun.cluster.policy.q
   pub enough_committed_is : put.enough_committed ≡ begun.cluster.policy.c
   pub place_is : put.place ≡ place_of begun
+  pub policy_is : put.policy ≡ begun.cluster.policy
   pub stamp_is : put.stamp ≡ begun.stamp
-  pub archives_are : put.archives ≡ archives_of begun
+  pub name_is : put.name ≡ begun.name
+  pub object_is : put.object ≡ begun.object
   pub primaries_are : put.primaries ≡ primaries begun
   pub handoffs_are : put.handoffs ≡ handoffs begun
   pub stores_are : put.stores ≡ counts_of (stores past)

@@ -7,6 +7,7 @@ mod laws;
 mod operation;
 mod planning;
 mod put;
+mod subject;
 
 pub use crate::end::PutEnd;
 pub use crate::laws::{end_law, machine_law};

@@ -1,33 +1,12 @@
 //! Where fragments and commits have to go.
 
-ghost use Rattle.std.specs.Prelude.{◌≡◌, ◌+◌, ◌≤◌, ◌<◌, [], IfOk, length, map, min, vec_capacity};
-ghost use Rattle.std.specs.List.{range_with_len};
-ghost use Rattle.sw_archive.specs.Put.{put_archive};
+ghost use Rattle.std.specs.Prelude.{◌≡◌, ◌≤◌, [], IfOk, length, vec_capacity};
 ghost use Rattle.sw_put.specs.Plans.{planned, replacement, told_misses};
 
 use std::alloc::Global;
-use sw_archive::make_archive;
 use sw_message::{Miss, Target, sort_targets};
 use sw_quorum::Tally;
-use sw_types::{Bytes, Items, Name, NoMemory, Object, Policy, Stamp};
-
-/// The archives of an object that is put, by index.
-pub(crate) fn make_archives(
-    alloc: Global,
-    policy: &Policy,
-    stamp: Stamp,
-    name: &Name,
-    object: &Object,
-) -> Result<Vec<Bytes>, NoMemory>
-    ensures { IfOk result (λ archives. archives.items ≡ map (put_archive policy.now stamp name.now object.now) (range_with_len 0 (policy.now.k + policy.now.m))) }
-{
-    prove!(policy.segment() <= Policy::GREATEST_SEGMENT);
-    let mut archives = Vec::new(alloc);
-    for index in 0..policy.k() + policy.m() {
-        archives.push(make_archive(alloc, policy, stamp, name, object, index)?)?;
-    }
-    Ok(archives)
-}
+use sw_types::{Items, NoMemory};
 
 /// Where the fragment of a miss goes: to a handoff, while there is one.
 pub(crate) fn replacement(missed: Option<(Target, Miss)>, handoff: Option<u16>) -> Option<Target>

@@ -1,6 +1,7 @@
 //! Puts.
 
-ghost use Rattle.std.specs.Prelude.{◌≡◌, ◌-◌, ◌<◌, ℕ, [], ◌∷◌, List, Some, None, IfOk, MatchOption, OnErr, is_some, length, nat_lt, slice_get, slice_index_or};
+ghost use Rattle.std.specs.Prelude.{◌≡◌, ◌+◌, ◌-◌, ◌<◌, ℕ, [], ◌∷◌, List, Some, None, IfOk, MatchOption, OnErr, is_some, length, nat_lt, slice_get};
+ghost use Rattle.sw_archive.specs.Put.{put_archive};
 ghost use Rattle.sw_message.specs.Transcript.{Gave, Hand, Over, Step, told};
 ghost use Rattle.sw_quorum.specs.Transcripts.{told_count};
 ghost use Rattle.sw_message.specs.declared.message.Msg.TheVariants.{PutFrag};
@@ -10,14 +11,15 @@ ghost use Rattle.sw_put.specs.Standing.{Stands, most_messages};
 
 use crate::end::PutEnd;
 use crate::errand::Errand;
-use crate::planning::{make_archives, plan_commits, replacement, told_misses};
+use crate::planning::{plan_commits, replacement, told_misses};
+use crate::subject::Subject;
 use std::alloc::Global;
 use std::marker::Model;
 use sw_hashpath::Place;
 use sw_message::{Msg, Reply, Sent, Target, Tickets, primaries};
 use sw_quorum::{Tally, commit_verdict, store_verdict};
 use sw_ring::Cluster;
-use sw_types::{Bytes, Name, NoMemory, Object, Stamp};
+use sw_types::{Name, NoMemory, Object, Stamp};
 
 /// A put. Its archives go to the primaries, and for each miss to a handoff; where enough were stored, they are made durable.
 #[derive(Debug, Drop)]
@@ -26,8 +28,7 @@ pub struct PutOp {
     enough_stored: u32,
     enough_committed: u32,
     place: Place,
-    stamp: Stamp,
-    archives: Vec<Bytes>,
+    subject: Subject,
     primaries: Vec<u16>,
     handoffs: Vec<u16>,
     stores: Tally<Target>,
@@ -56,7 +57,7 @@ impl Model for PutOp {
 }
 
 impl PutOp {
-    /// A put of an object under a name at a stamp, which has handed out nothing. It has made all archives.
+    /// A put of an object under a name at a stamp, which has handed out nothing. It keeps a copy of the object.
     pub fn begin(
         alloc: Global,
         cluster: &Cluster,
@@ -71,7 +72,7 @@ impl PutOp {
         let primaries = primaries(alloc, cluster, place.part())?;
         let handoffs = cluster.handoffs(alloc, place.part())?;
         let room = primaries.len() + handoffs.len();
-        let archives = make_archives(alloc, cluster.policy(), stamp, name, object)?;
+        let subject = Subject::of(alloc, cluster.policy(), stamp, name, object)?;
         let stores = Tally::new(alloc, room)?;
         let commits = Tally::new(alloc, room)?;
         let commits_due = Vec::with_capacity(alloc, room)?;
@@ -80,8 +81,7 @@ impl PutOp {
             enough_stored: cluster.policy().q(),
             enough_committed: cluster.policy().c(),
             place,
-            stamp,
-            archives,
+            subject,
             primaries,
             handoffs,
             stores,
@@ -165,7 +165,8 @@ impl PutOp {
         }
         match errand {
             Errand::StoreAt(target) => {
-                self.stores.take(target, store_verdict(self.stamp, &answer));
+                self.stores
+                    .take(target, store_verdict(self.subject.stamp, &answer));
                 let missed = self.stores.missed().len();
                 let count = self.primaries.len() + missed.min(self.handoffs.len());
                 plan_commits(
@@ -177,18 +178,18 @@ impl PutOp {
             }
             Errand::CommitAt(target) => {
                 self.commits
-                    .take(target, commit_verdict(self.stamp, &answer));
+                    .take(target, commit_verdict(self.subject.stamp, &answer));
             }
         }
     }
 
     // The fragment of an index.
     fn fragment(&self, index: u32) -> Result<Msg, NoMemory>
-        requires { index < length self.now.archives }
-        ensures { IfOk result (λ msg. msg ≡ PutFrag self.now.place self.now.stamp index (slice_index_or self.now.archives index [])) }
+        requires { index < self.now.policy.k + self.now.policy.m }
+        ensures { IfOk result (λ msg. msg ≡ PutFrag self.now.place self.now.stamp index (put_archive self.now.policy self.now.stamp self.now.name self.now.object index)) }
     {
-        let (place, stamp) = (self.place, self.stamp);
-        let bytes = self.archives[index as usize].clone()?;
+        let (place, stamp) = (self.place, self.subject.stamp);
+        let bytes = self.subject.archive(self.alloc, index)?;
         Ok(Msg::PutFrag {
             place,
             stamp,
@@ -206,7 +207,7 @@ impl PutOp {
         match errand {
             Errand::StoreAt(target) => self.fragment(target.index),
             Errand::CommitAt(target) => {
-                let (place, stamp, index) = (self.place, self.stamp, target.index);
+                let (place, stamp, index) = (self.place, self.subject.stamp, target.index);
                 Ok(Msg::Commit {
                     place,
                     stamp,
@@ -256,7 +257,7 @@ impl PutOp {
     {
         let commits = self.commits.done().len() as u32;
         if commits >= self.enough_committed {
-            let stamp = self.stamp;
+            let stamp = self.subject.stamp;
             return Ok(PutEnd::Created { stamp, commits });
         }
         if let Some(floor) = self.commits.floor() {

@@ -1,7 +1,8 @@
 use Rattle.std.proofs.Common.{◌≡◌, ◌++◌, ◌∙◌, List, ℕ, length, refl, sym, ap}
 use Rattle.std.proofs.lemmas.Result.{IfOk-weaker}
-use Rattle.sw_archive.specs.Archive.{checked, payload_length}
+use Rattle.sw_archive.specs.Archive.{checked, label_bytes, payload_length}
 use Rattle.sw_archive.proofs.Archives.{archive_of, same_archive}
+use Rattle.sw_archive.proofs.Labels.{label-payload}
 use Rattle.sw_archive.proofs.Objects.{further_archive}
 use Rattle.sw_archive.proofs.assemble.archive_of.Goals as goal
 use Rattle.sw_archive.proofs.assemble.archive_of.Goals.{In_ok-bytes}
@@ -12,9 +13,12 @@ label : (c : In_ok-bytes) (fragments : List ℕ) → (let first = c.index-archiv
 label c fragments count =
     let first = c.index-archives-0.result in
     let told = count ∙ sym (ap (λ n. payload_length n c.segment.result c.body_length.result) c.code.ensures.k ∙ ap (λ n. payload_length first.k n c.body_length.result) c.segment.ensures ∙ ap (payload_length first.k first.segment) c.body_length.ensures) in
-    c.in_ok-bytes.ensures fragments told
-    ∙ ap checked (same_archive (archive_of c.code.result.k c.code.result.m c.args.index c.segment.result c.stamp.result c.body_length.result c.body_md5.result c.name.result.now c.head.result.now fragments)
-    (record first { index = c.args.index; payload = fragments }) c.code.ensures.k c.code.ensures.m refl c.segment.ensures c.stamp.ensures c.body_length.ensures c.body_md5.ensures c.name.ensures c.head.ensures refl)
+    let archive = record first { index = c.args.index; payload = fragments } in
+    ap (λ (bytes : List ℕ). bytes ++ fragments)
+    (c.in_ok-bytes.ensures fragments told
+    ∙ ap label_bytes (same_archive (archive_of c.code.result.k c.code.result.m c.args.index c.segment.result c.stamp.result c.body_length.result c.body_md5.result c.name.result.now c.head.result.now fragments)
+    archive c.code.ensures.k c.code.ensures.m refl c.segment.ensures c.stamp.ensures c.body_length.ensures c.body_md5.ensures c.name.ensures c.head.ensures refl))
+    ∙ label-payload archive
 
 pub returns : goal.returns
 returns c =

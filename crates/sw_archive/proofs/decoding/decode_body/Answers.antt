@@ -1,4 +1,4 @@
-use Rattle.std.proofs.Common.{◌≡◌, ◌≤◌, ◌<◌, ◌-◌, ◌+◌, ◌∙◌, ◌++◌, List, ℕ, length, min, take, refl, sym, ap, subst, arith, length-append}
+use Rattle.std.proofs.Common.{◌≡◌, ◌≤◌, ◌<◌, ◌-◌, ◌+◌, ◌∙◌, List, ℕ, length, min, take, refl, sym, ap, subst, arith, rules}
 use Rattle.sw_cauchy.specs.Stripe.{fragment_width}
 use Rattle.sw_archive.specs.Decoding.{AreLeft, AreReached, laid_length}
 use Rattle.sw_archive.specs.Pieces.{IsDecoded, joined_segments}
@@ -19,6 +19,7 @@ segments-init c =
     let layout = c.layout_of-layout.result in
     let empty = sym c.in_ok-body.ensures.items in
     record {
+      code = search rules;
       reached = subst (λ n. AreReached layout n 0) (ap length empty) (none_reached layout);
       left = λ pieces of.
           subst (λ (items : List ℕ). AreLeft layout c.args.archives.now (joined_segments layout.size) (length items) 0 items pieces) empty
@@ -29,8 +30,8 @@ stop : (c : After-min-count) → c.segments.offset + fragment_width c.layout_of-
 stop c =
     next_stop c.layout_of-layout.result c.args.archives.now (length c.segments.body.items) c.segments.offset c.min-count.result _ (more c) (count_is c) refl c.layout_of-layout.ensures.size c.segments.invariant.reached
 
-pub decode_segment-requires-clause-reach : goal.decode_segment-requires-clause-reach
-decode_segment-requires-clause-reach c = stop (goal.at.decode_segment-requires-clause-reach c).After-min-count
+pub push_segment-requires-clause-reach : goal.push_segment-requires-clause-reach
+push_segment-requires-clause-reach c = stop (goal.at.push_segment-requires-clause-reach c).After-min-count
 
 pub overflow_add-offset : goal.overflow_add-offset
 overflow_add-offset c =
@@ -41,23 +42,27 @@ segments-preserved c =
     let layout = c.layout_of-layout.result in
     let archives = c.args.archives.now in
     let before = c.segments.body.items in
-    let segment = c.in_ok-segment.segment in
+    let after = c.push_segment.new.out.items in
     let step = (goal.at.segments-preserved c).After-min-count in
-    let items : c.extend_from_slice.new.self.items ≡ before ++ segment =
-    c.in_ok-extend_from_slice.ensures.items ∙ ap (λ (bytes : List ℕ). before ++ bytes) c.as_slice.ensures in
-    let long : length before + c.min-count.result ≡ length c.extend_from_slice.new.self.items =
-    sym (ap length items ∙ length-append before segment ∙ ap (λ n. length before + n) c.in_ok-segment.ensures.length) in
+    let long : length before + c.min-count.result ≡ length after = sym c.in_ok-push_segment.ensures.length in
     let width = c.fragment_width-offset.ensures in
     let stop = c.segments.offset + c.fragment_width-offset.result in
     record {
+      code = c.in_ok-push_segment.ensures.code;
       reached = subst (λ n. AreReached layout n stop) long
           (next_reached layout archives (length before) c.segments.offset c.min-count.result _ (more step) (count_is step) width c.layout_of-layout.ensures.size c.segments.invariant.reached);
       left = λ pieces of.
-          subst (λ (items : List ℕ). AreLeft layout archives (joined_segments layout.size) (length items) stop items pieces) (sym items)
-          (subst (λ n. AreLeft layout archives (joined_segments layout.size) n stop (before ++ segment) pieces) (long ∙ ap length items)
-          (next_left layout archives (length before) c.segments.offset c.min-count.result _ (more step) (count_is step) width (joined_segments layout.size) take before segment pieces
-          (λ n first others. refl) c.in_ok-segment.ensures.decoded (c.segments.invariant.left pieces of)));
+          subst (λ n. AreLeft layout archives (joined_segments layout.size) n stop after pieces) long
+          (next_left layout archives (length before) c.segments.offset c.min-count.result _ (more step) (count_is step) width (joined_segments layout.size) take before after pieces
+          (λ n first others. refl) c.in_ok-push_segment.ensures.decoded (c.segments.invariant.left pieces of));
     }
+
+pub returns-clause-length : goal.returns-clause-length
+returns-clause-length c =
+    let layout = c.layout_of-layout.result in
+    let whole : length c.from.result ≡ layout.total =
+    ap length c.from.ensures ∙ omega (arith, c.segments-test.false, c.len.ensures, c.segments.body.ok.0, c.segments.invariant.reached.within) in
+    λ position other below. whole ∙ sym (c.layout_of-layout.ensures.alike position other below).3
 
 pub returns-clause-decoded : goal.returns-clause-decoded
 returns-clause-decoded c =

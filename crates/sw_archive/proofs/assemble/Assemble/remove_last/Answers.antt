@@ -1,6 +1,6 @@
 -- Archives that stand beside one another still do without the last of them.
 use Rattle.std.proofs.Common.{◌≢◌, ℕ, ◌≤◌, ◌<◌, List, length, take, get_or, sym, subst, arith}
-use Rattle.std.specs.List.{All, AllPairs}
+use Rattle.std.specs.List.{AllPairs}
 use Rattle.std.proofs.lemmas.List.{get_or-take, length-take}
 use Rattle.std.proofs.lemmas.List.Elements.{All-take, All-weaker}
 use Rattle.sw_archive.specs.Archive.{ArchiveModel, IsSound}

@@ -1,10 +1,8 @@
 -- A put that has handed out nothing stands for the empty transcript.
-use Rattle.std.proofs.Common.{◌+◌, ◌<◌, [], length, map, refl, sym, ap, ◌∙◌, arith}
-use Rattle.std.specs.List.{range_with_len}
+use Rattle.std.proofs.Common.{◌<◌, [], length, sym, ap, ◌∙◌, arith}
 use Rattle.std.proofs.lemmas.Option.{none-some}
 use Rattle.sw_types.specs.Policy.{PolicyModel}
 use Rattle.sw_types.proofs.Policies.{bounds}
-use Rattle.sw_archive.specs.Put.{put_archive}
 use Rattle.sw_hashpath.specs.Place.{PlaceModel}
 use Rattle.sw_ring.specs.Cluster.{column_of, handoffs_of}
 use Rattle.sw_ring.proofs.Roles.{column_length}
@@ -30,9 +28,10 @@ invariant_of-result c =
           enough_stored_is = c.q.ensures ∙ ap (λ (policy : PolicyModel). policy.q) c.policy-2.ensures;
           enough_committed_is = c.c.ensures ∙ ap (λ (policy : PolicyModel). policy.c) c.policy-3.ensures;
           place_is = c.in_ok-place.ensures.place;
-          stamp_is = refl;
-          archives_are = c.in_ok-archives.ensures
-              ∙ ap (λ (policy : PolicyModel). map (put_archive policy c.args.stamp c.args.name.now c.args.object.now) (range_with_len 0 (policy.k + policy.m))) c.policy.ensures;
+          policy_is = c.in_ok-subject.ensures.policy ∙ c.policy.ensures;
+          stamp_is = c.in_ok-subject.ensures.stamp;
+          name_is = c.in_ok-subject.ensures.name;
+          object_is = c.in_ok-subject.ensures.object;
           primaries_are = c.in_ok-primaries.ensures ∙ ap (column_of c.args.cluster.now) (c.part.ensures ∙ part);
           handoffs_are = c.in_ok-handoffs.ensures ∙ ap (handoffs_of c.args.cluster.now) (c.part-2.ensures ∙ part);
           stores_are = c.in_ok-stores.ensures.empty;
