@@ -25,7 +25,8 @@ pub fn pass<L: Link>(
     requires cluster { (of : ClusterModel) → L.cluster link.old ≡ Some of → cluster.now ≡ of }
     ensures runs { (past : List Step) × IsRun (IsNext (record { cluster = cluster.now; device = device })) past × AreCalls L.calls L.losses link.old past link.new
         × IfOk result (λ report. IsEnd (record { cluster = cluster.now; device = device }) past report) }
-    ensures learns { StillTells (L.learnt link.old) (L.learnt link.new) }
+    ensures learns { StillTells (L.may_be_silent link.new) (L.learnt link.old) (L.learnt link.new) }
+    ensures silence { L.may_be_silent link.old → L.may_be_silent link.new }
     ensures cluster { L.cluster link.new ≡ L.cluster link.old }
 {
     let mut op = PassOp::begin(alloc, cluster, device);

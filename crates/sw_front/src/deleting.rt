@@ -21,9 +21,10 @@ pub fn delete<L: Draw>(
     name: &Name,
 ) -> Result<DeleteEnd, FrontFault>
     requires { (of : ClusterModel) → L.cluster link.old ≡ Some of → cluster.now ≡ of }
-    ensures deletes { DeletesOver L.draws L.calls L.losses cluster.now name.now link.old result link.new }
+    ensures deletes { DeletesOver L.draws L.calls L.losses L.learnt cluster.now name.now link.old result link.new }
     ensures spent { IsErrOf result FrontFault.StampsSpent → Rose (L.refusals link.old) (L.refusals link.new) }
-    ensures tells { StillTells (L.learnt link.old) (L.learnt link.new) }
+    ensures tells { StillTells (L.may_be_silent link.new) (L.learnt link.old) (L.learnt link.new) }
+    ensures silence { L.may_be_silent link.old → L.may_be_silent link.new }
     ensures cluster { L.cluster link.new ≡ L.cluster link.old }
 {
     prove!(!name.account().is_empty());

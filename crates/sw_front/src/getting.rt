@@ -20,8 +20,9 @@ pub fn get<L: Link>(
     name: &Name,
 ) -> Result<GetEnd, NoMemory>
     requires { (of : ClusterModel) → L.cluster link.old ≡ Some of → cluster.now ≡ of }
-    ensures gets { GetsOver L.calls L.losses (L.learnt link.new) (record { cluster = cluster.now; name = name.now }) link.old result link.new }
-    ensures tells { StillTells (L.learnt link.old) (L.learnt link.new) }
+    ensures gets { GetsOver L.calls L.losses L.learnt (record { cluster = cluster.now; name = name.now }) link.old result link.new }
+    ensures tells { StillTells (L.may_be_silent link.new) (L.learnt link.old) (L.learnt link.new) }
+    ensures silence { L.may_be_silent link.old → L.may_be_silent link.new }
     ensures cluster { L.cluster link.new ≡ L.cluster link.old }
 {
     let mut op = GetOp::begin(alloc, cluster, name)?;

@@ -22,9 +22,10 @@ pub fn put<L: Draw>(
     object: &Object,
 ) -> Result<PutEnd, FrontFault>
     requires { (of : ClusterModel) → L.cluster link.old ≡ Some of → cluster.now ≡ of }
-    ensures puts { PutsOver L.draws L.calls L.losses cluster.now name.now object.now link.old result link.new }
+    ensures puts { PutsOver L.draws L.calls L.losses L.learnt cluster.now name.now object.now link.old result link.new }
     ensures spent { IsErrOf result FrontFault.StampsSpent → Rose (L.refusals link.old) (L.refusals link.new) }
-    ensures tells { StillTells (L.learnt link.old) (L.learnt link.new) }
+    ensures tells { StillTells (L.may_be_silent link.new) (L.learnt link.old) (L.learnt link.new) }
+    ensures silence { L.may_be_silent link.old → L.may_be_silent link.new }
     ensures cluster { L.cluster link.new ≡ L.cluster link.old }
 {
     prove!(!name.account().is_empty());

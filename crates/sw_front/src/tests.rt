@@ -20,11 +20,13 @@ struct Obliging {
 }
 
 impl Link for Obliging {
-    ghost use Rattle.std.specs.Prelude.{None, ⊤};
+    ghost use Rattle.std.specs.Prelude.{None, ⊤, ⊥};
 
     ghost cluster = { λ link. None };
 
     ghost learnt = { λ link. None };
+
+    ghost may_be_silent = { λ link. ⊥ };
 
     ghost calls = { λ before device msg answer after. ⊤ };
 

@@ -42,14 +42,15 @@ pub sound_told : (cluster : ClusterModel) (of : Option ClusterModel) (learnt : O
 sound_told cluster of None known sound same tells = absurd (none-some known tells)
 sound_told cluster None (Some learnt) known sound same tells = absurd sound
 sound_told cluster (Some other) (Some learnt) known sound same tells =
-    subst (λ (one : Learnt). IsSoundBook cluster.policy one.book) (same_Some learnt known tells) (rw (same other refl) sound)
+    subst (λ (one : Learnt). IsSoundBook cluster.policy one.book) (same_Some learnt known tells) (rw (same other refl) sound.book)
 
-pub still_more : (first before after : Option Learnt) → StillTells before after → StillTells first before → StillTells first after
-still_more None None after later still = later
-still_more None (Some before) after later still = absurd (none-some before (sym still))
-still_more (Some first) before None later still = tt
-still_more (Some first) None (Some after) later still = absurd (none-some after (sym later))
-still_more (Some first) (Some before) (Some after) later still = record {
+pub still_more : (MayBe MayBeThen : Type 0) → (MayBe → MayBeThen) → (first before after : Option Learnt) → StillTells MayBeThen before after → StillTells MayBe first before → StillTells MayBeThen first after
+still_more MayBe MayBeThen stays None None after later still = later
+still_more MayBe MayBeThen stays None (Some before) after later still = absurd (none-some before (sym still))
+still_more MayBe MayBeThen stays (Some first) None None later still = stays still
+still_more MayBe MayBeThen stays (Some first) (Some before) None later still = later
+still_more MayBe MayBeThen stays (Some first) None (Some after) later still = absurd (none-some after (sym later))
+still_more MayBe MayBeThen stays (Some first) (Some before) (Some after) later still = record {
   book = λ one has. later.book one (still.book one has);
   marks = λ one has. later.marks one (still.marks one has);
   heard = λ one has. later.heard one (still.heard one has);
@@ -70,25 +71,25 @@ module _ (sent : Sent) (answer : Option Reply) (past : List Step) where
   run_more : (machine : List Step → Next → Type 0) → machine past (Hand sent) → IsRun machine past → IsRun machine (Told sent answer ∷ Gave sent ∷ past)
   run_more machine hands run = (rw (same_ticket sent.ticket) refl, (hands, run))
 
-  known_more : (cluster : ClusterModel) (own : Own) (of : Option ClusterModel) (before after : Option Learnt) → StillTells before after → Hears of after sent.device sent.msg answer
+  known_more : (MayBe : Type 0) (cluster : ClusterModel) (own : Own) (of : Option ClusterModel) (before after : Option Learnt) → StillTells MayBe before after → Hears of after sent.device sent.msg answer
       → ((known : Learnt) → after ≡ Some known → (other : ClusterModel) × (of ≡ Some other) × (cluster ≡ other))
       → ((known : Learnt) → before ≡ Some known → HasOwn own known × KnowsReplies cluster known past)
       → (known : Learnt) → after ≡ Some known → HasOwn own known × KnowsReplies cluster known (Told sent answer ∷ Gave sent ∷ past)
-  known_more cluster own of None after still hears same had known tells = absurd (none-some known (sym still ∙ tells))
-  known_more cluster own of (Some before) None still hears same had known tells = absurd (none-some known tells)
-  known_more cluster own None (Some before) (Some after) still hears same had known tells = let it = same after refl in absurd (none-some it.0 it.1)
-  known_more cluster own (Some of) (Some before) (Some after) still hears same had known tells =
+  known_more MayBe cluster own of None after still hears same had known tells = absurd (none-some known (sym still ∙ tells))
+  known_more MayBe cluster own of (Some before) None still hears same had known tells = absurd (none-some known tells)
+  known_more MayBe cluster own None (Some before) (Some after) still hears same had known tells = let it = same after refl in absurd (none-some it.0 it.1)
+  known_more MayBe cluster own (Some of) (Some before) (Some after) still hears same had known tells =
       let first = had before refl in
       let it = same after refl in
       subst (λ (one : Learnt). HasOwn own one × KnowsReplies cluster one (Told sent answer ∷ Gave sent ∷ past)) (same_Some after known tells)
       (own_kept before after still own first.0, (rw (it.2 ∙ sym (same_Some of it.0 it.1)) hears, replies_kept before after still cluster past first.1))
 
-  may_run_more : (cluster : ClusterModel) (own : Own) (of of' : Option ClusterModel) (before after : Option Learnt) → of' ≡ of → TellsSoundly of' after → StillTells before after → Hears of' after sent.device sent.msg answer
+  may_run_more : (MayBe : Type 0) (cluster : ClusterModel) (own : Own) (of of' : Option ClusterModel) (before after : Option Learnt) → of' ≡ of → TellsSoundly of' after → StillTells MayBe before after → Hears of' after sent.device sent.msg answer
       → MayRun cluster own past of before → MayRun cluster own (Told sent answer ∷ Gave sent ∷ past) of' after
-  may_run_more cluster own of of' before after same sound still hears may = record {
+  may_run_more MayBe cluster own of of' before after same sound still hears may = record {
     nothing_open = none_open may.nothing_open;
     same_cluster = λ other is. may.same_cluster other (sym same ∙ is);
-    known = known_more cluster own of' before after still hears (λ known tells. of_told cluster of' after known sound (λ other is. may.same_cluster other (sym same ∙ is)) tells) may.known;
+    known = known_more MayBe cluster own of' before after still hears (λ known tells. of_told cluster of' after known sound (λ other is. may.same_cluster other (sym same ∙ is)) tells) may.known;
   } where
     -- a link that tells has a cluster
     of_told : (cluster : ClusterModel) (of : Option ClusterModel) (learnt : Option Learnt) (known : Learnt) → TellsSoundly of learnt → ((other : ClusterModel) → of ≡ Some other → cluster ≡ other) → learnt ≡ Some known
@@ -107,7 +108,8 @@ module _ {S T : Type 0} (P : operation.Ghosts S) (L : link.Ghosts T) where
         → MayRun (P.cluster begun) (P.own begun) past (L.cluster over) (L.learnt over)
         → P.stands op' begun (more ++ past) × MayRun (P.cluster begun) (P.own begun) (more ++ past) (L.cluster over') (L.learnt over')
         × (IsRun (P.machine begun) past → IsRun (P.machine begun) (more ++ past)));
-    learns : StillTells (L.learnt over) (L.learnt over');
+    learns : StillTells (L.may_be_silent over') (L.learnt over) (L.learnt over');
+    silence : L.may_be_silent over → L.may_be_silent over';
     cluster : L.cluster over' ≡ L.cluster over;
   }
 
@@ -116,7 +118,8 @@ module _ {S T : Type 0} (P : operation.Ghosts S) (L : link.Ghosts T) where
   IsCalled over sent answer called = record {
     calls : L.calls over sent.device sent.msg answer called;
     cluster : L.cluster called ≡ L.cluster over;
-    tells : StillTells (L.learnt over) (L.learnt called);
+    tells : StillTells (L.may_be_silent called) (L.learnt over) (L.learnt called);
+    silence : L.may_be_silent over → L.may_be_silent called;
     hears : Hears (L.cluster called) (L.learnt called) sent.device sent.msg answer;
     counts : CountsLoss (L.losses over) (L.losses called) answer;
   }
@@ -135,10 +138,11 @@ module _ {S T : Type 0} (P : operation.Ghosts S) (L : link.Ghosts T) where
               let now = ran.runs.2 begun past stood may in
               let gave = gives begun _ now.0 in (
                 rw (told-gave sent answer (more ++ past)) at (takes begun _ gave.1),
-                may_run_more sent answer (more ++ past) _ _ _ _ _ _ call.cluster sound call.tells call.hears now.1,
+                may_run_more sent answer (more ++ past) _ _ _ _ _ _ _ call.cluster sound call.tells call.hears now.1,
                 λ run. run_more sent answer (more ++ past) (P.machine begun) gave.0 (now.2 run),
               ),
         );
-        learns = still_more _ _ _ call.tells ran.learns;
+        learns = still_more _ _ call.silence _ _ _ call.tells ran.learns;
+        silence = λ may. call.silence (ran.silence may);
         cluster = call.cluster ∙ ran.cluster;
       }

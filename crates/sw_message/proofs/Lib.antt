@@ -1,5 +1,6 @@
 pub mod Ascending
 pub mod Ascents
+pub mod Distinct
 pub mod Directories
 pub mod Going
 mod Handlings

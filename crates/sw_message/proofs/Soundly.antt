@@ -1,11 +1,11 @@
--- The test of a book says that it is sound, and a put of a stamp that it does not have passes.
-use Rattle.std.proofs.Common.{◌≡◌, ◌≢◌, ◌⊎◌, inl, inr, ⊎_elim, ℕ, zero, suc, ◌==◌, ◌<◌, ◌≤◌, ◌&&◌, Bool, true, false, not, cond, Contains, List, [], ◌∷◌, ◌++◌, length, nat_eq, Option, Some, None, slice_index, refl, sym, ap, subst, ◌∙◌, eq-eqb, eqb-true, lit<, arith}
+-- The test of what was learnt says that it is sound, and a put or a delete of a stamp that was not learnt passes.
+use Rattle.std.proofs.Common.{◌≡◌, ◌≢◌, ⊎_elim, ℕ, zero, suc, ◌<◌, ◌≤◌, ◌&&◌, Bool, true, false, cond, Contains, List, [], ◌∷◌, ◌++◌, length, map, nat_eq, Option, Some, None, append-nil, refl, sym, ap, subst, ◌∙◌, lit<, arith}
 use Rattle.std.specs.Prelude.{is_none, nat_le, nat_lt}
 use Rattle.std.specs.Cmp.Lexicographic.{pointwise}
-use Rattle.std.specs.List.{list_all}
+use Rattle.std.specs.List.{AllPairs, list_all}
 use Rattle.std.proofs.lemmas.Bool.{and_parts, le-leb, leb-true, lt-ltb, ltb-true}
-use Rattle.std.proofs.lemmas.List.Elements.{Contains-append_cases}
-use Rattle.std.proofs.lemmas.Option.{same_Some}
+use Rattle.std.proofs.lemmas.List.{append_assoc, map-append}
+use Rattle.std.proofs.lemmas.List.Elements.{Contains-push_cases}
 use Rattle.md5.specs.Md5.{md5}
 use Rattle.sw_words.specs.Bytes.{IsBytes}
 use Rattle.sw_types.specs.Head.{head_fault}
@@ -15,11 +15,12 @@ use Rattle.sw_types.specs.Policy.{PolicyModel, policy_fault}
 use Rattle.sw_types.specs.Stamp.{greatest_stamp}
 use Rattle.sw_types.proofs.Names.{pointwise-same, pointwise-true}
 use Rattle.sw_archive.specs.Put.{IsPut}
-use Rattle.sw_diskfile.proofs.Lists.{Contains-cases, Contains-first, Contains-later, Contains-none}
+use Rattle.sw_diskfile.proofs.Lists.{Contains-map}
 use Rattle.sw_ring.specs.Cluster.{ClusterModel}
-use Rattle.sw_message.specs.Learnt.{Booked, IsSoundBook, Learnt}
+use Rattle.sw_message.specs.Learnt.{Booked, IsSoundLearnt, Learnt, Marked}
 use Rattle.sw_message.specs.Running.{TellsSoundly}
-use Rattle.sw_message.specs.Soundly.{has_other_stamp, is_byte, is_object, is_put, is_sound_book, told_soundly}
+use Rattle.sw_message.specs.Soundly.{are_distinct, is_byte, is_object, is_put, is_sound_learnt, stamps_of, stamps_of_book, stamps_of_marks, told_soundly}
+use Rattle.sw_message.proofs.Distinct.{all_contained, all_of, contained_all, distinct-apart, distinct-more, distinct-one, distinct-right, pairs-distinct}
 
 none-true : {A : Type 0} (option : Option A) → is_none option ≡ true → option ≡ None
 none-true None is = refl
@@ -27,10 +28,6 @@ none-true (Some value) is = absurd (cc)
 
 true-none : {A : Type 0} (option : Option A) → option ≡ None → is_none option ≡ true
 true-none option is = ap is_none is
-
-all_of : (a b : Bool) → a ≡ true → b ≡ true → (a && b) ≡ true
-all_of true b first second = second
-all_of false b first second = absurd (cc)
 
 -- ---- objects and puts
 
@@ -83,65 +80,64 @@ module _ (policy : PolicyModel) (booked : Booked) where
       (all_of _ _ (le-leb booked.stamp greatest_stamp is.stamp_bound)
       (all_of _ _ (true-none (name_fault booked.name) is.name_rules) (true-object booked.object is.object_rules)))
 
--- ---- books
-
-other-true : (stamp : ℕ) (book : List Booked) → list_all (has_other_stamp stamp) book ≡ true → (booked : Booked) → Contains book booked → booked.stamp ≢ stamp
-other-true stamp [] all booked has = absurd (Contains-none booked has)
-other-true stamp (first ∷ book) all booked has =
-    let parts = and_parts (has_other_stamp stamp first) (list_all (has_other_stamp stamp) book) all in
-    ⊎_elim (λ here. λ same. differs (first.stamp == stamp) refl parts.0 (ap (λ (one : Booked). one.stamp) here ∙ same)) (λ later. other-true stamp book parts.1 booked later) (Contains-cases first book booked has)
-  where
-    differs : (b : Bool) → (first.stamp == stamp) ≡ b → not b ≡ true → first.stamp ≡ stamp → ⊥
-    differs true is other same = absurd (cc)
-    differs false is other same = let it : (first.stamp == stamp) ≡ true = eq-eqb first.stamp stamp same in absurd (cc)
+-- ---- what was learnt
 
 module _ (policy : PolicyModel) where
-  -- a book that passes is sound
-  pub book-sound : (book : List Booked) → is_sound_book policy book ≡ true → IsSoundBook policy book
-  book-sound [] is = record { puts = λ booked has. absurd (Contains-none booked has); one = λ a b has. absurd (Contains-none a has) }
-  book-sound (first ∷ book) is =
-      let parts = and_parts (is_put policy first) (list_all (has_other_stamp first.stamp) book && is_sound_book policy book) is in
-      let others = and_parts (list_all (has_other_stamp first.stamp) book) (is_sound_book policy book) parts.1 in
-      let rest = book-sound book others.1 in
-      let other = other-true first.stamp book others.0 in
+  -- what passes is sound
+  pub learnt-sound : (learnt : Learnt) → is_sound_learnt policy learnt ≡ true → IsSoundLearnt policy learnt
+  learnt-sound learnt is =
+      let parts = and_parts (list_all (is_put policy) learnt.book) (are_distinct (stamps_of learnt)) is in
+      let books = stamps_of_book learnt.book in
+      let marks = stamps_of_marks learnt.marks in
       record {
-        puts = λ booked has. ⊎_elim
-            (λ here. subst (λ (one : Booked). IsPut policy one.stamp one.name one.object) here (put-true policy first parts.0))
-            (λ later. rest.puts booked later) (Contains-cases first book booked has);
-        one = λ a b has also same. ⊎_elim
-            (λ here. ⊎_elim (λ too. sym here ∙ too) (λ later. absurd (other b later (sym same ∙ ap (λ (one : Booked). one.stamp) (sym here)))) (Contains-cases first book b also))
-            (λ later. ⊎_elim (λ too. absurd (other a later (same ∙ ap (λ (one : Booked). one.stamp) (sym too)))) (λ also_later. rest.one a b later also_later same) (Contains-cases first book b also))
-            (Contains-cases first book a has);
+        book = record {
+          puts = λ booked has. put-true policy booked (all_contained (is_put policy) learnt.book parts.0 booked has);
+          one = distinct-one (λ (booked : Booked). booked.stamp) learnt.book marks parts.1;
+        };
+        one_mark = distinct-one (λ (marked : Marked). marked.stamp) learnt.marks [] (subst (λ numbers. are_distinct numbers ≡ true) (sym (append-nil marks)) (distinct-right books marks parts.1));
+        apart = λ booked marked has also. distinct-apart books marks parts.1 booked.stamp marked.stamp
+            (Contains-map (λ (one : Booked). one.stamp) learnt.book booked has) (Contains-map (λ (one : Marked). one.stamp) learnt.marks marked also);
       }
 
-  others-more : (stamp : ℕ) (book : List Booked) (booked : Booked) → list_all (has_other_stamp stamp) book ≡ true → has_other_stamp stamp booked ≡ true → list_all (has_other_stamp stamp) (book ++ booked ∷ []) ≡ true
-  others-more stamp [] booked all other = all_of _ _ other refl
-  others-more stamp (first ∷ book) booked all other =
-      let parts = and_parts (has_other_stamp stamp first) (list_all (has_other_stamp stamp) book) all in all_of _ _ parts.0 (others-more stamp book booked parts.1 other)
+  -- what is sound passes, where nothing is there twice
+  pub sound-learnt : (learnt : Learnt) → ((booked : Booked) → Contains learnt.book booked → IsPut policy booked.stamp booked.name booked.object) → AllPairs (λ n m. n ≢ m) (stamps_of learnt) → is_sound_learnt policy learnt ≡ true
+  sound-learnt learnt puts apart = all_of _ _ (contained_all (is_put policy) learnt.book (λ booked has. true-put policy booked (puts booked has))) (pairs-distinct (stamps_of learnt) apart)
 
-  -- with one put more, of a stamp that is not there, it passes still
-  pub book-more : (book : List Booked) (booked : Booked) → is_sound_book policy book ≡ true → IsPut policy booked.stamp booked.name booked.object → ((other : Booked) → Contains book other → other.stamp < booked.stamp)
-      → is_sound_book policy (book ++ booked ∷ []) ≡ true
-  book-more [] booked is put before = all_of _ _ (true-put policy booked put) refl
-  book-more (first ∷ book) booked is put before =
-      let parts = and_parts (is_put policy first) (list_all (has_other_stamp first.stamp) book && is_sound_book policy book) is in
-      let others = and_parts (list_all (has_other_stamp first.stamp) book) (is_sound_book policy book) parts.1 in
-      all_of _ _ parts.0 (all_of _ _
-      (others-more first.stamp book booked others.0 (differs (booked.stamp == first.stamp) refl))
-      (book-more book booked others.1 put (λ other has. before other (Contains-later first book other has))))
-    where
-      differs : (b : Bool) → (booked.stamp == first.stamp) ≡ b → has_other_stamp first.stamp booked ≡ true
-      differs true is = let less = before first (Contains-first first book) in let same : booked.stamp ≡ first.stamp = eqb-true booked.stamp first.stamp is in absurd (omega arith)
-      differs false is = ap not is
+  module _ (learnt : Learnt) (is : is_sound_learnt policy learnt ≡ true) where
+    passed : (list_all (is_put policy) learnt.book ≡ true) × (are_distinct (stamps_of learnt) ≡ true)
+    passed = and_parts (list_all (is_put policy) learnt.book) (are_distinct (stamps_of learnt)) is
+
+    below : (stamp : ℕ) → ((n : ℕ) → Contains (stamps_of learnt) n → n < stamp) → (n : ℕ) → Contains (stamps_of learnt) n → n ≢ stamp
+    below stamp before n has = λ same. let less = before n has in absurd (omega (arith, less, same))
+
+    -- with one put more, of a later stamp, it passes still
+    pub learnt-more_puts : (booked : Booked) → IsPut policy booked.stamp booked.name booked.object → ((n : ℕ) → Contains (stamps_of learnt) n → n < booked.stamp)
+        → is_sound_learnt policy (record learnt { book = learnt.book ++ booked ∷ [] }) ≡ true
+    learnt-more_puts booked put before =
+        let books = stamps_of_book learnt.book in
+        let marks = stamps_of_marks learnt.marks in
+        let stamps : stamps_of_book (learnt.book ++ booked ∷ []) ++ marks ≡ books ++ booked.stamp ∷ marks = ap (λ numbers. numbers ++ marks) (map-append (λ (one : Booked). one.stamp) learnt.book (booked ∷ [])) ∙ append_assoc books (booked.stamp ∷ []) marks in
+        all_of _ _ (contained_all (is_put policy) (learnt.book ++ booked ∷ []) (λ one has. ⊎_elim (λ there. all_contained (is_put policy) learnt.book passed.0 one there)
+        (λ here. subst (λ it. is_put policy it ≡ true) here (true-put policy booked put)) (Contains-push_cases learnt.book booked one has)))
+        (subst (λ numbers. are_distinct numbers ≡ true) (sym stamps) (distinct-more books marks booked.stamp passed.1 (below booked.stamp before)))
+
+    -- likewise with one delete more
+    pub learnt-more_deletes : (marked : Marked) → ((n : ℕ) → Contains (stamps_of learnt) n → n < marked.stamp) → is_sound_learnt policy (record learnt { marks = learnt.marks ++ marked ∷ [] }) ≡ true
+    learnt-more_deletes marked before =
+        let all = stamps_of learnt in
+        let marks = stamps_of_marks learnt.marks in
+        let stamps : stamps_of_book learnt.book ++ stamps_of_marks (learnt.marks ++ marked ∷ []) ≡ all ++ marked.stamp ∷ [] = ap (λ numbers. stamps_of_book learnt.book ++ numbers) (map-append (λ (one : Marked). one.stamp) learnt.marks (marked ∷ [])) ∙ sym (append_assoc (stamps_of_book learnt.book) marks (marked.stamp ∷ [])) in
+        all_of _ _ passed.0 (subst (λ numbers. are_distinct numbers ≡ true) (sym stamps) (distinct-more all [] marked.stamp (subst (λ numbers. are_distinct numbers ≡ true) (sym (append-nil all)) passed.1)
+        (λ n has. below marked.stamp before n (subst (λ numbers. Contains numbers n) (append-nil all) has))))
 
 -- what is told by the test is sound
 pub told-sound : (cluster : ClusterModel) (learnt : Learnt) → TellsSoundly (Some cluster) (told_soundly cluster.policy learnt)
-told-sound cluster learnt = by_test (is_sound_book cluster.policy learnt.book) refl
+told-sound cluster learnt = by_test (is_sound_learnt cluster.policy learnt) refl
   where
-    by_test : (b : Bool) → is_sound_book cluster.policy learnt.book ≡ b → TellsSoundly (Some cluster) (cond b (Some learnt) None)
-    by_test true is = book-sound cluster.policy learnt.book is
+    by_test : (b : Bool) → is_sound_learnt cluster.policy learnt ≡ b → TellsSoundly (Some cluster) (cond b (Some learnt) None)
+    by_test true is = learnt-sound cluster.policy learnt is
     by_test false is = tt
 
--- a book that passes is told
-pub told-passed : (policy : PolicyModel) (learnt : Learnt) → is_sound_book policy learnt.book ≡ true → told_soundly policy learnt ≡ Some learnt
+-- what passes is told
+pub told-passed : (policy : PolicyModel) (learnt : Learnt) → is_sound_learnt policy learnt ≡ true → told_soundly policy learnt ≡ Some learnt
 told-passed policy learnt is = rw is refl

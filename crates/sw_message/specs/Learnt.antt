@@ -44,6 +44,12 @@ pub record IsSoundBook (policy : PolicyModel) (book : List Booked) : Type 0 wher
   pub puts : (booked : Booked) → Contains book booked → IsPut policy booked.stamp booked.name booked.object
   pub one : (a b : Booked) → Contains book a → Contains book b → a.stamp ≡ b.stamp → a ≡ b
 
+-- What was learnt of puts and deletes is sound: the puts are, no two deletes have one stamp, and no delete has that of a put.
+pub record IsSoundLearnt (policy : PolicyModel) (learnt : Learnt) : Type 0 where
+  pub book : IsSoundBook policy learnt.book
+  pub one_mark : (a b : Marked) → Contains learnt.marks a → Contains learnt.marks b → a.stamp ≡ b.stamp → a ≡ b
+  pub apart : (booked : Booked) (marked : Marked) → Contains learnt.book booked → Contains learnt.marks marked → booked.stamp ≢ marked.stamp
+
 -- ---- what an operation knows
 
 -- what an operation started itself

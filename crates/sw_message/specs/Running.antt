@@ -4,7 +4,7 @@ use Rattle.sw_words.specs.Counts.{Rose}
 use Rattle.sw_types.specs.Name.{NameModel}
 use Rattle.sw_types.specs.Object.{ObjectModel}
 use Rattle.sw_ring.specs.Cluster.{ClusterModel}
-use Rattle.sw_message.specs.Learnt.{HasOwn, IsSoundBook, Keeps, KnowsReplies, KnowsReply, Learnt, Own}
+use Rattle.sw_message.specs.Learnt.{HasOwn, IsSoundLearnt, Keeps, KnowsReplies, KnowsReply, Learnt, Own}
 use Rattle.sw_message.specs.Message.{IsMember, IsPlaceOf, place_in}
 use Rattle.sw_message.specs.Transcript.{Gave, Step, Told, opens}
 use Rattle.sw_message.specs.declared.message.Msg.{Msg}
@@ -15,17 +15,17 @@ pub record IsOf (cluster : ClusterModel) (device : ℕ) (msg : Msg) : Type 0 whe
   pub member : IsMember cluster device
   pub place : IsPlaceOf cluster (place_in msg)
 
--- A link that tells what it has learnt has a cluster, and the puts that it has learnt are sound.
+-- A link that tells what it has learnt has a cluster, and what it has learnt of puts and deletes is sound.
 abbrev pub TellsSoundly : Option ClusterModel → Option Learnt → Type 0
 TellsSoundly of None = ⊤
 TellsSoundly None (Some learnt) = ⊥
-TellsSoundly (Some cluster) (Some learnt) = IsSoundBook cluster.policy learnt.book
+TellsSoundly (Some cluster) (Some learnt) = IsSoundLearnt cluster.policy learnt
 
--- A link that tells keeps what it has learnt, or falls silent. One that is silent stays so.
-abbrev pub StillTells : Option Learnt → Option Learnt → Type 0
-StillTells None after = after ≡ None
-StillTells (Some before) None = ⊤
-StillTells (Some before) (Some after) = Keeps before after
+-- A link that tells keeps what it has learnt, unless it may be silent. One that is silent stays so.
+abbrev pub StillTells : Type 0 → Option Learnt → Option Learnt → Type 0
+StillTells MayBeSilent None after = after ≡ None
+StillTells MayBeSilent (Some before) None = MayBeSilent
+StillTells MayBeSilent (Some before) (Some after) = Keeps before after
 
 -- What a link has learnt by a call of a device, where it tells still: the reply, and that an archive in it is that of a put.
 abbrev pub Hears : Option ClusterModel → Option Learnt → ℕ → Msg → Option Reply → Type 0
@@ -59,6 +59,11 @@ pub record MayRun (cluster : ClusterModel) (own : Own) (past : List Step) (of : 
 pub record MayBegin (cluster : ClusterModel) (own : Own) (of : Option ClusterModel) (learnt : Option Learnt) : Type 0 where
   pub same_cluster : (other : ClusterModel) → of ≡ Some other → cluster ≡ other
   pub known : (known : Learnt) → learnt ≡ Some known → HasOwn own known
+
+-- where a link tells still, it has learnt what an operation started and the replies that it took
+abbrev pub StillKnows : ClusterModel → Own → List Step → Option Learnt → Type 0
+StillKnows cluster own past None = ⊤
+StillKnows cluster own past (Some known) = HasOwn own known × KnowsReplies cluster known past
 
 -- a put of an object was learnt, or a delete where there is none
 abbrev pub LearnsOwn : Learnt → NameModel → Option ObjectModel → ℕ → Type 0

@@ -33,7 +33,8 @@ pub trait Draw: Link {
         requires name { name_fault name.now ≡ None }
         requires object { IfSome (option_copied object) IsObject }
         ensures draws { draws self.old name.now (option_copied object.entry) result self.new }
-        ensures tells { StillTells (Self.learnt self.old) (Self.learnt self.new) }
+        ensures tells { StillTells (Self.may_be_silent self.new) (Self.learnt self.old) (Self.learnt self.new) }
+        ensures silence { Self.may_be_silent self.old → Self.may_be_silent self.new }
         ensures learns { IfOk result (Draws (Self.learnt self.new) name.now (option_copied object.entry)) }
         ensures cluster { Self.cluster self.new ≡ Self.cluster self.old }
         ensures losses { Self.losses self.new ≡ Self.losses self.old }

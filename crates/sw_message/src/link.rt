@@ -13,14 +13,17 @@ use crate::reply::Reply;
 
 /// Calls devices.
 ///
-/// A link may tell what it has learnt: of puts and deletes that were started, and of replies. It may fall silent at any call, and then
-/// tells nothing from then on.
+/// A link may tell what it has learnt: of puts and deletes that were started, and of replies. Only where it says that it may be silent can
+/// it fall silent at a call, and then it tells nothing from then on.
 pub trait Link {
     /// Its cluster, where it has one.
     ghost cluster: { Self → Option ClusterModel };
 
     /// What it has learnt, where it tells.
     ghost learnt: { Self → Option Learnt };
+
+    /// Whether it may be silent though it told before. It may be so from then on.
+    ghost may_be_silent: { Self → Type 0 };
 
     /// What a call of a device with a message may answer, and leave.
     ghost calls: { Self → ℕ → AMsg → Option AReply → Self → Type 0 };
@@ -34,7 +37,8 @@ pub trait Link {
         requires warranted { (of : ClusterModel) (known : Learnt) → cluster self.old ≡ Some of → learnt self.old ≡ Some known → IsWarranted of known msg.now }
         ensures calls { calls self.old device msg.now result self.new }
         ensures cluster { cluster self.new ≡ cluster self.old }
-        ensures tells { StillTells (learnt self.old) (learnt self.new) }
+        ensures tells { StillTells (may_be_silent self.new) (learnt self.old) (learnt self.new) }
+        ensures silence { may_be_silent self.old → may_be_silent self.new }
         ensures hears { Hears (cluster self.new) (learnt self.new) device msg.now result }
         ensures counts { CountsLoss (losses self.old) (losses self.new) result };
 

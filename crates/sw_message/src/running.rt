@@ -19,7 +19,8 @@ pub fn run<P: Operation, L: Link>(op: &mut P, link: &mut L) -> Result<(), NoMemo
         × (IsRun (P.machine begun) past → IsRun (P.machine begun) (more ++ past))
         × OnOk result (P.machine begun (more ++ past) Over)) }
     ensures ended { OnOk result (P.has_ended op.new ≡ true) }
-    ensures learns { StillTells (L.learnt link.old) (L.learnt link.new) }
+    ensures learns { StillTells (L.may_be_silent link.new) (L.learnt link.old) (L.learnt link.new) }
+    ensures silence { L.may_be_silent link.old → L.may_be_silent link.new }
     ensures cluster { L.cluster link.new ≡ L.cluster link.old }
 {
     while let Some(sent) = op.next()? {
@@ -40,7 +41,8 @@ pub fn run_whole<P: Operation, L: Link>(op: &mut P, link: &mut L) -> Result<(), 
         P.stands op.new begun past × IsRun (P.machine begun) past × MayRun (P.cluster begun) (P.own begun) past (L.cluster link.new) (L.learnt link.new)
         × OnOk result (P.machine begun past Over)) }
     ensures ended { OnOk result (P.has_ended op.new ≡ true) }
-    ensures learns { StillTells (L.learnt link.old) (L.learnt link.new) }
+    ensures learns { StillTells (L.may_be_silent link.new) (L.learnt link.old) (L.learnt link.new) }
+    ensures silence { L.may_be_silent link.old → L.may_be_silent link.new }
     ensures cluster { L.cluster link.new ≡ L.cluster link.old }
 {
     run(op, link)

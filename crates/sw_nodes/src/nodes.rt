@@ -202,6 +202,8 @@ impl<'a> Link for Nodes<'a> {
 
     ghost learnt = { λ all. None };
 
+    ghost may_be_silent = { λ all. ⊥ };
+
     ghost calls = { Calls };
 
     ghost losses = { λ all. all.lost };
