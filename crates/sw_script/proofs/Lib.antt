@@ -1,5 +1,7 @@
+mod Bodies
 mod Cuts
 mod Escapes
 mod Numbers
+mod Readings
 mod ShortWords
 mod WordCounts

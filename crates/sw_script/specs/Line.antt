@@ -1,5 +1,5 @@
 -- The lines of a script, and the event that a line tells.
-use Rattle.std.specs.Prelude.{ℕ, ◌==◌, Bool, true, false, if◌then◌else◌, nat_lt, codes, List, [], ◌∷◌, length, Option, Some, None, Result, Ok, Err}
+use Rattle.std.specs.Prelude.{ℕ, ◌==◌, Bool, true, if◌then◌else◌, nat_lt, codes, List, [], ◌∷◌, length, Option, Some, None, Result, Ok, Err}
 use Rattle.std.specs.List.{slice_split}
 use Rattle.sw_types.specs.Name.{NameModel}
 use Rattle.sw_types.specs.Object.{ObjectModel}
@@ -60,10 +60,13 @@ named_job verb name =
     else if is_word verb (codes "del") then name_then name (λ n. Ok (Delete n))
     else Err Form
 
+abbrev pub put_of : (name body : List ℕ) → Result Job LineFault
+put_of name body = name_then name (λ n. object_then body (λ object. Ok (Put n object)))
+
 -- `put NAME HEX`, `recon J NAME`
 abbrev pub longer_job : List ℕ → (first second : List ℕ) → Result Job LineFault
 longer_job verb first second =
-    if is_word verb (codes "put") then name_then first (λ name. object_then second (λ object. Ok (Put name object)))
+    if is_word verb (codes "put") then put_of first second
     else if is_word verb (codes "recon") then number_then first (λ device. name_then second (λ name. Ok (Recon device name)))
     else Err Form
 

@@ -52,6 +52,10 @@ parts_of text =
 abbrev pub sound_name : NameModel → Option NameModel
 sound_name name = if is_none (name_fault name) then Some name else None
 
+-- the greatest number of bytes of a name, with its slashes
+abbrev pub greatest_name : ℕ
+greatest_name = 1538
+
 -- the name that a word spells: its escapes are replaced by their bytes, and then it is cut at its slashes
 abbrev pub name_of : List ℕ → Option NameModel
 name_of word = if has_whole_escapes word then sound_name (parts_of (percent_decode word)) else None

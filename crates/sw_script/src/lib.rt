@@ -8,6 +8,7 @@ mod laws;
 mod line;
 mod name;
 mod word;
+mod words;
 
 pub use crate::cut::cut_at;
 pub use crate::event::{Event, Job};

@@ -1,30 +1,49 @@
 //! The name of an object that a word spells.
 
-ghost use Rattle.std.specs.Prelude.{◌≡◌, None, Some, IfErr, IfOk};
+ghost use Rattle.std.specs.Prelude.{◌≡◌, ◌<◌, [], None, Some, IfErr, IfOk, IsSome, length, false, true};
+ghost use Rattle.percent_encoding.specs.Percent.{percent_decode as decoded};
 ghost use Rattle.sw_words.specs.Memory.{UnlessMemory};
-ghost use Rattle.sw_script.specs.Word.{begins_with_digits, has_whole_escapes, name_of, parts_of};
+ghost use Rattle.sw_script.specs.Word.{begins_with_digits, greatest_name, has_whole_escapes, name_of, parts_of};
 
 use crate::{LineFault, cut_at};
+use arrayvec::ArrayVec;
 use percent_encoding::percent_decode;
 use std::alloc::Global;
 use sw_types::{Name, NameFault};
 
-/// The name that a word spells.
+// The greatest number of bytes of a name: of its three parts, and the slashes between them.
+const GREATEST_NAME: usize = 1538;
+
+/// The name that a word spells. It takes memory, and may answer `NoMemory`, only where the word spells one.
 pub(crate) fn read_name(alloc: Global, word: &[u8]) -> Result<Name, LineFault>
     ensures read { IfOk result (λ name. name_of word.now ≡ Some name) }
     ensures fault { IfErr result (λ fault. UnlessMemory LineFault.NoMemory fault ((name_of word.now ≡ None) × (fault ≡ LineFault.BadName))) }
+    ensures memory { IfErr result (λ fault. fault ≡ LineFault.NoMemory → IsSome (name_of word.now)) }
 {
-    if !has_whole_escapes(word) {
+    let mut text = ArrayVec::new();
+    if !has_whole_escapes(word) || !decodes(word, &mut text) {
         return Err(LineFault::BadName);
     }
-    let mut text = Vec::new(alloc);
-    percent_decode(word).append_to(&mut text)?;
-    let (account, container, object) = parts(&text);
+    let (account, container, object) = parts(text.as_slice());
     match Name::make(alloc, account, container, object) {
         Ok(name) => Ok(name),
         Err(NameFault::NoMemory) => Err(LineFault::NoMemory),
         Err(_) => Err(LineFault::BadName),
     }
+}
+
+// Replaces each escape of a word by its byte, if what comes of it is no longer than a name.
+fn decodes(word: &[u8], text: &mut ArrayVec<u8, GREATEST_NAME>) -> bool
+    requires { text.old.items ≡ [] }
+    ensures decoded { result ≡ true → text.new.items ≡ decoded word.now }
+    ensures long { result ≡ false → greatest_name < length (decoded word.now) }
+{
+    for byte in percent_decode(word) {
+        if text.try_push(byte).is_err() {
+            return false;
+        }
+    }
+    true
 }
 
 // Whether each percent sign is followed by two hexadecimal digits.

@@ -1,44 +1,62 @@
--- The lines of what is shown: that of a file that is found by the name of an entry, and all of them.
-use Rattle.std.proofs.Common.{◌≡◌, ◌≢◌, ℕ, Bool, List, [], ◌∷◌, ◌++◌, length, map, Option, Some, option_map, refl, ap, subst, ◌∙◌, arith}
+-- The lines of what is shown: that of a file that is lent by the name of an entry, and all of them.
+use Rattle.std.proofs.Common.{◌≡◌, ◌≢◌, ℕ, List, [], ◌∷◌, ◌++◌, length, map, Option, Some, None, option_map, refl, sym, ap, subst, ◌∙◌, arith}
 use Rattle.std.specs.List.{All, AllZip}
 use Rattle.std.proofs.lemmas.List.Elements.{All-contains}
+use Rattle.std.proofs.lemmas.Option.{none-some, same_Some}
 use Rattle.sw_disk.specs.Answers.{IsListing, names_of}
 use Rattle.sw_disk.specs.Folder.{Content, File, content_at}
-use Rattle.sw_hashpath.specs.FileName.{IsFileName, file_name_text}
+use Rattle.sw_memdisk.specs.Lent.{LendsFiles}
+use Rattle.sw_hashpath.specs.FileName.{file_name_text}
 use Rattle.sw_hashpath.specs.declared.file_name.FileName.{FileName}
 use Rattle.sw_hashpath.specs.declared.file_name.FileName.TheVariants.{Data}
 use Rattle.sw_hashdir.specs.Directory.{IsDirectory}
 use Rattle.sw_hashdir.specs.Listing.{IsListingOf, ListingModel}
 use Rattle.sw_hashdir.specs.declared.entry.Entry.{Entry}
-use Rattle.sw_archive.specs.Archive.{ArchiveModel, IsArchive}
+use Rattle.sw_archive.specs.Archive.{IsArchive}
 use Rattle.sw_told.specs.declared.show.ShowLine.{ShowLine}
-use Rattle.sw_told.specs.declared.show.ShowLine.TheVariants.{Buried, Empty, Stored}
-use Rattle.sw_world.specs.Show.{IsPayload, IsReadable, IsShown, IsShownEntry, or_empty}
-use Rattle.sw_world.proofs.ShownNames.{IsFound, same_directory}
+use Rattle.sw_told.specs.declared.show.ShowLine.TheVariants.{Buried, Empty}
+use Rattle.sw_world.specs.Show.{HasArchive, IsLentEntry, IsReadable, IsShown, IsShownEntry, Lent, or_empty}
+use Rattle.sw_world.proofs.ShownNames.{HasNameOf, is_found, same_directory}
 
 -- ---- one file
 
--- what is read by a name is what the file that it finds holds
-pub bytes_read : {A : Type 0} (f : A → List ℕ) (files : List File) (name text : List ℕ) (result : Option A) → name ≡ text → (found : IsFound files text)
-    → option_map f result ≡ option_map (λ content. content.bytes) (content_at name files) → option_map f result ≡ Some found.file.content.bytes
-bytes_read f files name text result same found is =
-    is ∙ ap (λ (n : List ℕ). option_map (λ (content : Content). content.bytes) (content_at n files)) same ∙ ap (option_map (λ (content : Content). content.bytes)) found.content_is
+-- the content of bytes that were found
+content_of_bytes : (found : Option Content) (bytes : List ℕ) → option_map (λ (content : Content). content.bytes) found ≡ Some bytes → (content : Content) × (found ≡ Some content) × (content.bytes ≡ bytes)
+content_of_bytes None bytes is = absurd (none-some bytes is)
+content_of_bytes (Some content) bytes is = (content, refl, same_Some content.bytes bytes is)
 
--- a file that is found by the name of an archive is one
-pub archive_there : (files : List File) (stamp index : ℕ) (durable : Bool) → All IsReadable files → IsFileName (Data stamp index durable) → (found : IsFound files (file_name_text (Data stamp index durable)))
-    → (archive : ArchiveModel) × IsArchive found.file.content.bytes archive
-archive_there files stamp index durable readable is_name found = All-contains IsReadable files found.file readable found.there stamp index durable is_name found.name_is
+module _ (files : List File) (lent : Lent) (lends : LendsFiles files lent) where
+  -- of an entry whose name is that of a file an archive is lent
+  pub archive_lent : All IsReadable files → (entry : Entry) → HasNameOf (names_of files) entry → HasArchive lent entry
+  archive_lent readable entry named =
+      let found = is_found files (file_name_text (Data entry.stamp entry.index entry.durable)) named.1 in
+      let archive = All-contains IsReadable files found.file readable found.there entry.stamp entry.index entry.durable named.0 found.name_is in
+      record {
+        named = named.0;
+        bytes = found.file.content.bytes;
+        found = lends (file_name_text (Data entry.stamp entry.index entry.durable)) ∙ ap (option_map (λ (content : Content). content.bytes)) found.content_is;
+        archive = archive.0;
+        is_archive = archive.1;
+      }
 
--- the line of an entry
-pub entry_shown : (device : ℕ) (files : List File) (entry : Entry) (bytes payload : List ℕ) → (found : IsFound files (file_name_text (Data entry.stamp entry.index entry.durable)))
-    → bytes ≡ found.file.content.bytes → IsPayload bytes payload → IsShownEntry device files entry (Stored device entry payload)
-entry_shown device files entry bytes payload found same is = record {
-  content = found.file.content;
-  there = found.content_is;
-  archive = is.0;
-  is_archive = subst (λ (bs : List ℕ). IsArchive bs is.0) same is.1;
-  line_is = ap (Stored device entry) is.2;
-}
+  -- and what is shown of it is shown of the files
+  line_shown : (device : ℕ) (entry : Entry) (line : ShowLine) → IsLentEntry device lent entry line → IsShownEntry device files entry line
+  line_shown device entry line is =
+      let name : List ℕ = file_name_text (Data entry.stamp entry.index entry.durable) in
+      let content = content_of_bytes (content_at name files) is.bytes (sym (lends name) ∙ is.found) in
+      record {
+        content = content.0;
+        there = content.1;
+        archive = is.archive;
+        is_archive = subst (λ (bytes : List ℕ). IsArchive bytes is.archive) (sym content.2) is.is_archive;
+        line_is = is.line_is;
+      }
+
+  pub lines_shown : (device : ℕ) (entries : List Entry) (lines : List ShowLine) → AllZip (IsLentEntry device lent) entries lines → AllZip (IsShownEntry device files) entries lines
+  lines_shown device [] [] all = tt
+  lines_shown device [] (line ∷ lines) all = absurd all
+  lines_shown device (entry ∷ entries) [] all = absurd all
+  lines_shown device (entry ∷ entries) (line ∷ lines) all = (line_shown device entry line all.0, lines_shown device entries lines all.1)
 
 -- ---- all lines
 

@@ -1,8 +1,11 @@
 -- What a device keeps in the folder of a name, as it is shown.
-use Rattle.std.specs.Prelude.{◌≡◌, ℕ, Bool, List, [], ◌∷◌, ◌++◌, map, Contains, Some}
+use Rattle.std.specs.Prelude.{◌≡◌, ℕ, Bool, List, [], ◌∷◌, ◌++◌, map, Some}
+use denote.Bor.{Bor}
+use Rattle.std.specs.BTreeMap.{BTreeMap}
 use Rattle.std.specs.List.{AllZip}
 use Rattle.sw_disk.specs.Answers.{names_of}
 use Rattle.sw_disk.specs.Folder.{Content, File, content_at}
+use Rattle.sw_memdisk.specs.Lent.{bytes_under}
 use Rattle.sw_hashpath.specs.FileName.{IsFileName, file_name_text}
 use Rattle.sw_hashpath.specs.declared.file_name.FileName.{FileName}
 use Rattle.sw_hashpath.specs.declared.file_name.FileName.TheVariants.{Data}
@@ -36,9 +39,26 @@ pub record IsShown (device : ℕ) (files : List File) (shown : List ShowLine) : 
   pub are_entries : AllZip (IsShownEntry device files) listing.entries entries
   pub shown_is : shown ≡ or_empty device (entries ++ map (Buried device) listing.tombstones)
 
--- there is a file of the name of an entry
-abbrev pub HasNameOf : List (List ℕ) → Entry → Type 0
-HasNameOf names entry = IsFileName (Data entry.stamp entry.index entry.durable) × Contains names (file_name_text (Data entry.stamp entry.index entry.durable))
+-- ---- files that are lent
+
+abbrev pub Lent : Type 0
+Lent = BTreeMap (Bor (List ℕ)) (Bor (List ℕ))
+
+-- among them the name of an entry finds an archive
+pub record HasArchive (lent : Lent) (entry : Entry) : Type 0 where
+  pub named : IsFileName (Data entry.stamp entry.index entry.durable)
+  pub bytes : List ℕ
+  pub found : bytes_under (file_name_text (Data entry.stamp entry.index entry.durable)) lent ≡ Some bytes
+  pub archive : ArchiveModel
+  pub is_archive : IsArchive bytes archive
+
+-- and the entry is shown with its payload
+pub record IsLentEntry (device : ℕ) (lent : Lent) (entry : Entry) (line : ShowLine) : Type 0 where
+  pub bytes : List ℕ
+  pub found : bytes_under (file_name_text (Data entry.stamp entry.index entry.durable)) lent ≡ Some bytes
+  pub archive : ArchiveModel
+  pub is_archive : IsArchive bytes archive
+  pub line_is : line ≡ Stored device entry archive.payload
 
 -- the bytes are an archive of this payload
 abbrev pub IsPayload : List ℕ → List ℕ → Type 0

@@ -6,7 +6,6 @@ mod delivering;
 mod devices;
 mod fault;
 mod inner;
-mod names;
 mod show;
 mod starting;
 mod world;

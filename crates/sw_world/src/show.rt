@@ -1,17 +1,17 @@
 //! What a device keeps in the folder of a name.
 
-ghost use Rattle.std.specs.Prelude.{◌≡◌, ◌++◌, IfOk, OnOk, map};
+ghost use Rattle.std.specs.Prelude.{◌≡◌, ◌++◌, IfOk, OnOk, map, option_map};
 ghost use Rattle.std.specs.List.{All, AllZip};
 ghost use Rattle.sw_archive.specs.Archive.{ArchiveModel, IsArchive};
-ghost use Rattle.sw_disk.specs.Answers.{names_of};
 ghost use Rattle.sw_hashpath.specs.Place.{folder_of};
+ghost use Rattle.sw_memdisk.specs.Lent.{bytes_under};
 ghost use Rattle.sw_memdisk.specs.Log.{files_now};
 ghost use Rattle.sw_memdisk.specs.Memory.{log_at};
-ghost use Rattle.sw_world.specs.Show.{HasNameOf, IsPayload, IsReadable, IsShown, IsShownEntry, or_empty};
+ghost use Rattle.sw_world.specs.Show.{HasArchive, IsLentEntry, IsPayload, IsReadable, IsShown, or_empty};
 ghost use Rattle.sw_told.specs.declared.show.ShowLine.TheVariants.{Buried};
 
-use crate::names::names_in;
 use std::alloc::Global;
+use std::collections::BTreeMap;
 use sw_archive::{ArchiveFault, read_archive};
 use sw_hashdir::{Entry, HashDir};
 use sw_hashpath::{FileName, Place};
@@ -19,7 +19,11 @@ use sw_memdisk::MemDisk;
 use sw_told::ShowLine;
 use sw_types::{Bytes, Items, NoMemory, Stamp};
 
-/// What a device keeps in the folder of a place, on this disk, without a call of the device.
+// Files of a folder by their names.
+type Lent<'a> = BTreeMap<&'a str, &'a [u8]>;
+
+/// What a device keeps in the folder of a place, on this disk, without a call of the device. It goes over the folder's files a few
+/// times and sorts their names.
 pub(crate) fn shown(
     alloc: Global,
     disk: &MemDisk,
@@ -30,10 +34,11 @@ pub(crate) fn shown(
     ensures { IfOk result (IsShown device (files_now (log_at disk.now.folders (folder_of place)))) }
 {
     let folder = place.folder(alloc)?;
-    let names = names_in(alloc, disk, folder.as_str())?;
+    let names = disk.names(alloc, folder.as_str())?;
     let directory = HashDir::of(alloc, &names)?;
     let listing = directory.listing(alloc)?;
-    let mut lines = stored_lines(alloc, disk, folder.as_str(), device, listing.entries())?;
+    let lent = disk.lend(alloc, folder.as_str())?;
+    let mut lines = stored_lines(alloc, &lent, device, listing.entries())?;
     push_buried(&mut lines, device, listing.tombstones())?;
     if lines.is_empty() {
         lines.push(ShowLine::Empty { device })?;
@@ -41,36 +46,32 @@ pub(crate) fn shown(
     Ok(Items::from(lines))
 }
 
-// A line for each of some entries of a folder, in their order.
+// A line for each of some entries, in their order, of which the files are lent.
 fn stored_lines(
     alloc: Global,
-    disk: &MemDisk,
-    folder: &str,
+    lent: &Lent<'_>,
     device: u16,
     entries: &[Entry],
 ) -> Result<Vec<ShowLine>, NoMemory>
-    requires readable { All IsReadable (files_now (log_at disk.now.folders folder.now)) }
-    requires named { All (HasNameOf (names_of (files_now (log_at disk.now.folders folder.now)))) entries.now }
-    ensures { IfOk result (λ lines. AllZip (IsShownEntry device (files_now (log_at disk.now.folders folder.now))) entries.now lines.items) }
+    requires { All (HasArchive lent.now) entries.now }
+    ensures { IfOk result (λ lines. AllZip (IsLentEntry device lent.now) entries.now lines.items) }
 {
     let mut lines = Vec::new(alloc);
     for entry in entries {
-        lines.push(stored_line(alloc, disk, folder, device, *entry)?)?;
+        lines.push(stored_line(alloc, lent, device, *entry)?)?;
     }
     Ok(lines)
 }
 
-// The line of an entry of a folder, with the payload of its archive.
+// The line of an entry, with the payload of its archive.
 fn stored_line(
     alloc: Global,
-    disk: &MemDisk,
-    folder: &str,
+    lent: &Lent<'_>,
     device: u16,
     entry: Entry,
 ) -> Result<ShowLine, NoMemory>
-    requires readable { All IsReadable (files_now (log_at disk.now.folders folder.now)) }
-    requires named { HasNameOf (names_of (files_now (log_at disk.now.folders folder.now))) entry }
-    ensures { IfOk result (IsShownEntry device (files_now (log_at disk.now.folders folder.now)) entry) }
+    requires { HasArchive lent.now entry }
+    ensures { IfOk result (IsLentEntry device lent.now entry) }
 {
     let name = FileName::Data {
         stamp: entry.stamp,
@@ -78,7 +79,7 @@ fn stored_line(
         durable: entry.durable,
     };
     let text = name.print(alloc)?;
-    let Some(bytes) = disk.file(folder, text.as_str()) else {
+    let Some(bytes) = lent_under(lent, text.as_str()) else {
         unreachable!();
     };
     let payload = payload_of(alloc, bytes)?;
@@ -87,6 +88,13 @@ fn stored_line(
         entry,
         payload,
     })
+}
+
+// The bytes that are lent under a name.
+fn lent_under<'a>(lent: &Lent<'a>, name: &str) -> Option<&'a [u8]>
+    ensures { option_map (λ bytes. bytes.now) result ≡ bytes_under name.now lent.now }
+{
+    lent.get(name).copied()
 }
 
 // The payload of the archive that the bytes spell.

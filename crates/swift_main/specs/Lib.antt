@@ -1,4 +1,5 @@
 pub mod Answer
+pub mod Command
 pub mod Input
 pub mod Outcome
 pub mod Top

@@ -1,6 +1,5 @@
--- What the program answers: its status and all that it writes, by its words and its whole input.
-use Rattle.std.specs.Prelude.{◌≡◌, ◌⊎◌, ℕ, nat_eq, nat_lt, Bool, true, false, codes, List, [], ◌∷◌, ◌++◌, length, Result, Ok, Err}
-use Rattle.std.specs.Cmp.Lexicographic.{pointwise}
+-- What the program answers: its status and all that it writes, by the command that its words ask for and its whole input.
+use Rattle.std.specs.Prelude.{◌≡◌, ◌⊎◌, ℕ, nat_lt, Bool, true, false, codes, List, [], ◌∷◌, ◌++◌, length, Option, Some, None, Result, Ok, Err}
 use Rattle.std.specs.Fmt.{decimal}
 use Rattle.sw_ring.specs.Cluster.{ClusterModel, IsCluster, KeepsRules}
 use Rattle.sw_ring.specs.Members.{RingMembers}
@@ -11,6 +10,8 @@ use Rattle.sw_play.specs.Play.{IsRun}
 use Rattle.sw_world.specs.Scripted.{empty_script}
 use Rattle.sw_play.specs.declared.playing.PlayEnd.{PlayEnd}
 use Rattle.sw_play.specs.declared.playing.PlayEnd.TheVariants as ended
+use Rattle.swift_main.specs.declared.command.Command.{Command}
+use Rattle.swift_main.specs.declared.command.Command.TheVariants.{Play}
 use Rattle.swift_main.specs.declared.status.Status.{Status}
 use Rattle.swift_main.specs.declared.status.Status.TheVariants.{Done, Usage, Ring, Line, NoMemory, ReadFault, WriteFault, Spent, TooLong}
 use Rattle.swift_main.specs.Input.{ring_in, script_in}
@@ -39,11 +40,6 @@ last_line WriteFault = []
 last_line (Spent line) = codes "line " ++ decimal line ++ codes ": stamps spent" ++ 10 ∷ []
 last_line TooLong = codes "input too long" ++ 10 ∷ []
 
--- the words are the program's name and the one command that there is yet
-abbrev pub is_play : List (List ℕ) → Bool
-is_play (program ∷ command ∷ []) = pointwise nat_eq command (codes "play")
-is_play _ = false
-
 -- the greatest number of bytes of the whole input
 abbrev pub greatest_input : ℕ
 greatest_input = 67108864
@@ -71,18 +67,15 @@ abbrev pub InputGives : Bool → List ℕ → Status → List ℕ → Type 0
 InputGives true input status told = (status ≡ TooLong) × (told ≡ [])
 InputGives false input status told = RingGives (ring_in input) (script_in input) status told
 
-abbrev pub WordsGive : Bool → List ℕ → Status → List ℕ → Type 0
-WordsGive false input status told = (status ≡ Usage) × (told ≡ [])
-WordsGive true input status told = InputGives (nat_lt greatest_input (length input)) input status told
-
--- by the words and the input
-abbrev pub Gives : List (List ℕ) → List ℕ → Status → List ℕ → Type 0
-Gives words input status told = WordsGive (is_play words) input status told
+-- by the command and the input
+abbrev pub Gives : Option Command → List ℕ → Status → List ℕ → Type 0
+Gives None input status told = (status ≡ Usage) × (told ≡ [])
+Gives (Some Play) input status told = InputGives (nat_lt greatest_input (length input)) input status told
 
 -- all that is written
 abbrev pub text_of : Status → List ℕ → List ℕ
 text_of status told = told ++ last_line status
 
 -- Where memory was wanted, nothing was told, or what is told of some first events of the script, each whole.
-abbrev pub GivesPart : List (List ℕ) → List ℕ → List ℕ → Type 0
-GivesPart words input told = (told ≡ []) ⊎ Gives words input NoMemory told
+abbrev pub GivesPart : Option Command → List ℕ → List ℕ → Type 0
+GivesPart command input told = (told ≡ []) ⊎ Gives command input NoMemory told

@@ -1,6 +1,6 @@
-//! What the program answers, by its words and its whole input.
+//! What the program answers, by its command and its whole input.
 
-ghost use Rattle.std.specs.Prelude.{◌≡◌, ◌≤◌, ◌++◌, Err, IfErr, IfOk, length, map, string_bytes};
+ghost use Rattle.std.specs.Prelude.{◌≡◌, ◌≤◌, ◌++◌, Err, IfErr, IfOk, Some, length};
 ghost use Rattle.sw_words.specs.Memory.{UnlessMemory};
 ghost use Rattle.sw_play.specs.Play.{greatest_script};
 ghost use Rattle.sw_world.specs.Standing.{StandsFor};
@@ -8,8 +8,9 @@ ghost use Rattle.sw_world.specs.Scripted.{empty_script};
 ghost use Rattle.sw_ring.specs.Cluster.{ring_of};
 ghost use Rattle.swift_main.specs.Answer.{IsAnswer, IsAnswerBy, IsLastLine};
 ghost use Rattle.swift_main.specs.Input.{ring_text};
-ghost use Rattle.swift_main.specs.Outcome.{RingGives, ScriptGives, is_play, last_line};
+ghost use Rattle.swift_main.specs.Outcome.{RingGives, ScriptGives, last_line};
 
+use crate::command::Command;
 use crate::input::{at_empty_line, read_ring};
 use crate::status::Status;
 use std::alloc::Global;
@@ -28,20 +29,21 @@ pub struct Answer {
     pub text: Bytes,
 }
 
-/// Whether the words, the program's name among them, are the command `play`.
-pub fn is_play(words: &[String]) -> bool
-    ensures { result ≡ is_play (map (λ word. string_bytes word) words.now) }
+/// The answer to the command that the words ask for, if they ask for one, and the input. Where memory was refused, the text is what
+/// is told of some first events, each whole.
+pub fn decide(alloc: Global, command: Option<Command>, input: &[u8]) -> Answer
+    ensures { IsAnswer command input.now result }
 {
-    words.len() == 2 && words[1].as_str() == "play"
+    match command {
+        Some(Command::Play) => play_input(alloc, input),
+        None => last_line_alone(alloc, Status::Usage),
+    }
 }
 
-/// The answer to the words and the input. Where memory was refused, the text is what is told of some first events, each whole.
-pub fn decide(alloc: Global, words: &[String], input: &[u8]) -> Answer
-    ensures { IsAnswer (map (λ word. string_bytes word) words.now) input.now result }
+// The answer to `play` and the input.
+fn play_input(alloc: Global, input: &[u8]) -> Answer
+    ensures { IsAnswer (Some Command.Play) input.now result }
 {
-    if !is_play(words) {
-        return last_line_alone(alloc, Status::Usage);
-    }
     if input.len() > GREATEST_INPUT {
         return last_line_alone(alloc, Status::TooLong);
     }

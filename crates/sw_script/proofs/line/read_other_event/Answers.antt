@@ -1,15 +1,6 @@
-use Rattle.std.proofs.Common.{List, ℕ, arith, length, map}
-use denote.Bor.{Bor}
-use Rattle.std.proofs.lemmas.List.{length-map}
-use Rattle.sw_script.proofs.ShortWords.{short_word}
-use Rattle.sw_script.proofs.WordCounts.{no_event}
+use Rattle.std.proofs.Common.{arith}
+use Rattle.sw_script.proofs.ShortWords.{third_short}
 use Rattle.sw_script.proofs.line.read_other_event.Goals as goal
 
 pub read_longer_event-requires : goal.read_longer_event-requires
-read_longer_event-requires c = short_word 65536 c.args.words.now 2 _ (omega arith) c.requires
-
-pub returns-clause-fault : goal.returns-clause-fault
-returns-clause-fault c = λ goes.
-    let size = length-map c.args.words.now (λ (word : Bor (List ℕ)). word.now) in
-    no_event (map (λ (word : Bor (List ℕ)). word.now) c.args.words.now) (λ one. absurd (omega (arith, size, one, c.if-words-eq1.false))) (λ two. absurd (omega (arith, size, two, c.if-words-eq2.false)))
-    (λ three. absurd (omega (arith, size, three, c.if-words-eq3.false))) (λ four. absurd (omega (arith, size, four, c.if-words-eq4.false)))
+read_longer_event-requires c = omega (arith, c.requires, third_short _ c.args.line.now _ _ _ c.in-Three.ensures)

@@ -1,17 +1,19 @@
 use Rattle.std.proofs.Common.{◌≡◌, ℕ, ◌++◌, List, map, vec_len, sym, ap, subst, ◌∙◌}
 use borrow.Author.Tests.{eqb-false, eqb-true}
 use Rattle.std.specs.List.{All, AllZip}
+use Rattle.std.proofs.lemmas.List.Elements.{All-weaker}
 use Rattle.sw_disk.specs.Answers.{IsListing, names_of, texts_of}
 use Rattle.sw_disk.specs.Folder.{File}
 use Rattle.sw_hashdir.specs.Directory.{IsDirectory}
 use Rattle.sw_hashdir.specs.declared.entry.Entry.{Entry}
 use Rattle.sw_hashpath.specs.Place.{folder_of}
+use Rattle.sw_memdisk.specs.Lent.{LendsFiles}
 use Rattle.sw_memdisk.specs.Log.{files_now}
 use Rattle.sw_memdisk.specs.Memory.{log_at}
 use Rattle.sw_told.specs.declared.show.ShowLine.TheVariants.{Buried}
-use Rattle.sw_world.specs.Show.{HasNameOf, IsReadable, IsShownEntry, or_empty}
-use Rattle.sw_world.proofs.ShownLines.{all_shown, no_line, some_line}
-use Rattle.sw_world.proofs.ShownNames.{entries_named, same_directory}
+use Rattle.sw_world.specs.Show.{HasArchive, IsShownEntry, or_empty}
+use Rattle.sw_world.proofs.ShownLines.{all_shown, archive_lent, lines_shown, no_line, some_line}
+use Rattle.sw_world.proofs.ShownNames.{HasNameOf, entries_named, same_directory}
 use Rattle.sw_world.proofs.show.shown.Goals as goal
 use Rattle.sw_world.proofs.show.shown.Goals.{After-entries, then-is_empty+in_ok-push, else-is_empty}
 
@@ -26,16 +28,15 @@ listed c =
 directory : (c : After-entries) → IsDirectory (texts_of c.in_ok-names.names.items) c.in_ok-directory.directory
 directory c = subst (λ names. IsDirectory (texts_of names) c.in_ok-directory.directory) c.deref.ensures.value c.in_ok-directory.ensures
 
-pub stored_lines-requires-clause-readable : goal.stored_lines-requires-clause-readable
-stored_lines-requires-clause-readable c =
-    subst (λ (folder : List ℕ). All IsReadable (files_now (log_at c.args.disk.now.folders folder))) (sym (c.as_str-2.ensures.value ∙ c.in_ok-folder.ensures)) c.requires
+lends : (c : After-entries) → LendsFiles (files c) c.in_ok-lent.lent
+lends c = subst (λ (folder : List ℕ). LendsFiles (files_now (log_at c.args.disk.now.folders folder)) c.in_ok-lent.lent) (c.as_str-2.ensures.value ∙ c.in_ok-folder.ensures) c.in_ok-lent.ensures
 
-pub stored_lines-requires-clause-named : goal.stored_lines-requires-clause-named
-stored_lines-requires-clause-named c =
-    let after = (goal.at.stored_lines-requires-clause-named c).After-entries in
-    let all = entries_named (names_of (files after)) c.in_ok-directory.directory c.in_ok-listing.listing (same_directory (names_of (files after)) _ c.in_ok-directory.directory (listed after) (directory after)) c.in_ok-listing.ensures in
-    subst (λ (folder : List ℕ). All (HasNameOf (names_of (files_now (log_at c.args.disk.now.folders folder)))) c.entries.result.now) (sym (c.as_str-2.ensures.value ∙ c.in_ok-folder.ensures))
-    (subst (All (HasNameOf (names_of (files after)))) (sym c.entries.ensures) all)
+pub stored_lines-requires : goal.stored_lines-requires
+stored_lines-requires c =
+    let after = (goal.at.stored_lines-requires c).After-entries in
+    let named = entries_named (names_of (files after)) c.in_ok-directory.directory c.in_ok-listing.listing (same_directory (names_of (files after)) _ c.in_ok-directory.directory (listed after) (directory after)) c.in_ok-listing.ensures in
+    subst (All (HasArchive c.in_ok-lent.lent)) (sym c.entries.ensures)
+    (All-weaker (HasNameOf (names_of (files after))) (HasArchive c.in_ok-lent.lent) (archive_lent (files after) c.in_ok-lent.lent (lends after) c.requires) c.in_ok-listing.listing.entries named)
 
 pub returns : goal.returns
 returns c =
@@ -49,7 +50,7 @@ returns c =
           let some = eqb-false (vec_len lines) 0 (sym w.if-is_empty.ensures) in
           ap (λ v. v.items) w.lines-is ∙ sym (some_line c.args.device lines.items (λ none. some (lines.ok.0 ∙ none)))
     ] in
-    let are = subst (λ (folder : List ℕ). AllZip (IsShownEntry c.args.device (files_now (log_at c.args.disk.now.folders folder))) c.entries.result.now c.in_ok-lines.lines.items) (c.as_str-2.ensures.value ∙ c.in_ok-folder.ensures) c.in_ok-lines.ensures in
+    let are = lines_shown (files after) c.in_ok-lent.lent (lends after) c.args.device c.entries.result.now c.in_ok-lines.lines.items c.in_ok-lines.ensures in
     let all = subst (λ (entries : List Entry). AllZip (IsShownEntry c.args.device (files after)) entries c.in_ok-lines.lines.items) c.entries.ensures are in
     let buried : lines.items ≡ c.in_ok-lines.lines.items ++ map (Buried c.args.device) c.in_ok-listing.listing.tombstones
     = c.in_ok-push_buried.ensures ∙ ap (λ (stamps : List ℕ). c.in_ok-lines.lines.items ++ map (Buried c.args.device) stamps) c.tombstones.ensures in

@@ -1,9 +1,6 @@
-use Rattle.std.proofs.Common.{List, ℕ, arith, length, map, subst, sym}
-use denote.Bor.{Bor}
-use Rattle.sw_script.proofs.ShortWords.{AreShort, longer}
+use Rattle.std.proofs.Common.{arith, sym, ◌∙◌}
+use Rattle.sw_script.proofs.Readings.{passed_on, tells_event}
 use Rattle.sw_script.proofs.event.Event.read.Goals as goal
 
-pub read_event-requires : goal.read_event-requires
-read_event-requires c =
-    subst (λ (words : List (Bor (List ℕ))). AreShort 65536 (map (λ (word : Bor (List ℕ)). word.now) words)) (sym c.deref.ensures.value)
-    (longer (length c.args.line.now) 65536 (map (λ (word : Bor (List ℕ)). word.now) c.in_ok-words.words.items) (omega arith) c.in_ok-words.ensures.short)
+pub returns-in_err-event-clause-memory : goal.returns-in_err-event-clause-memory
+returns-in_err-event-clause-memory c = passed_on _ c.from_residual.result _ c.from_residual.ensures.1 (λ none. tells_event c.args.line.now (omega arith) (sym c.is_blank.ensures ∙ c.if-is_blank.false) (c.in_err-event.ensures.memory none))
