@@ -1,4 +1,13 @@
 pub mod Example
+pub mod Found
+pub mod Getting
+pub mod Given
 pub mod Handing
 pub mod Hearing
+pub mod Pairs
+pub mod Putting
+pub mod Reading
+pub mod Serving
+pub mod Steps
 pub mod Storing
+pub mod Writing

@@ -29,7 +29,7 @@ no_floor_at stamp Durable has = Contains-none _ has.1
 no_floor_at stamp Tombstone has = Contains-none _ has
 
 -- the capacity is free
-all_free : (capacity : ℕ) → IsFree capacity no_folders capacity
+pub all_free : (capacity : ℕ) → IsFree capacity no_folders capacity
 all_free capacity = record { names = []; distinct = λ i j d less within. absurd (omega (arith, within)); others = λ name none. refl; room_is = omega arith }
 
 module _ (cluster : ClusterModel) (device : ℕ) (place : PlaceModel) (stamp index : ℕ) (bytes : List ℕ) where

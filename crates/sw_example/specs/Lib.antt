@@ -1,1 +1,3 @@
 pub mod Example
+pub mod Loss
+pub mod Pair

@@ -10,6 +10,7 @@ ghost use Rattle.sw_core.specs.Operating.{IsGetOf};
 ghost use Rattle.sw_core.specs.World.{Operating, World, numbered};
 ghost use Rattle.sw_steady.specs.Steady.{MissesAlike, kept_events};
 ghost use Rattle.sw_alone.specs.Alone.{IsAlone};
+ghost use Rattle.sw_complete.specs.InFull.{DeletesEndInFull, GetsEndInFull, PutsEndInFull};
 ghost use Rattle.sw_headline.specs.Headline.{NeverOlder, ShowsOrOvertaken, StaysDeleted};
 ghost use Rattle.sw_headline.specs.Invariant.{Invariant};
 
@@ -18,7 +19,9 @@ ghost use Rattle.sw_headline.specs.Invariant.{Invariant};
 /// message of the get, tells of nothing older; if besides at most q - k devices are so, it shows the put or something newer, or it was
 /// overtaken. After a delete was acknowledged with so many marks, with fewer devices so, it tells of nothing older than the delete. A get
 /// beside which nothing steps, and of which each device misses all questions or none, keeps at most one round as an event and is not
-/// overtaken.
+/// overtaken. On devices that are all up and sure of their disks, with nothing else stepping and no message given up, operations end in
+/// full: a put is acknowledged with k + m commits where every disk has room, a delete with k + m marks, and a get ends by what the devices
+/// have.
 pub fn headline_law()
     ensures invariant { (cluster : ClusterModel) (events : List Event) (world : World) → IsRun cluster events world → Invariant cluster world }
     ensures never_older { (cluster : ClusterModel) → NeverOlder cluster }
@@ -27,4 +30,7 @@ pub fn headline_law()
     ensures alone { (cluster : ClusterModel) (world : World) (number : ℕ) (operation : Operating) (begun : gets.Begun) (turns : List gets.Turn) → IsAlone cluster world number → numbered world.operations number ≡ Some operation →
         IsGetOf operation.begun begun → gets.AreTurns begun operation.past turns → MissesAlike begun operation.past →
         (length (kept_events begun turns) ≤ 1) × ((events : List AnEvent) → gets.IsEnd begun operation.past (Overtaken events) → ⊥) }
+    ensures puts_in_full { (cluster : ClusterModel) → PutsEndInFull cluster }
+    ensures deletes_in_full { (cluster : ClusterModel) → DeletesEndInFull cluster }
+    ensures gets_in_full { (cluster : ClusterModel) → GetsEndInFull cluster }
 {}

@@ -19,14 +19,14 @@ const NOTHING: PassReport = PassReport {
     missed: 0,
 };
 
-// Puts an object of three bytes as `a/c/o`.
-fn put(alloc: Global, nodes: &mut Nodes<'_>) -> Result<(), Fail>
+// Puts an object of this body as `a/c/o`.
+pub(crate) fn put(alloc: Global, nodes: &mut Nodes<'_>, body: &[u8]) -> Result<(), Fail>
     ensures goes_on { OnOk result (nodes.new.is_wanting ≡ false) }
     ensures cluster { OnOk result (nodes.new.cluster ≡ nodes.old.cluster) }
 {
     let name = Name::make(alloc, b"a", b"c", b"o")?;
     let head = Head::make(alloc, b"text/plain", &[])?;
-    let body = Bytes::from_slice(alloc, b"abc")?;
+    let body = Bytes::from_slice(alloc, body)?;
     let object = Object::make(head, body).ok().ok_or("too long")?;
     let stamp = Stamp::make(100_000_000_000_000).ok_or("stamp")?;
     let mut op = PutOp::begin(alloc, nodes.cluster(), stamp, &name, &object)?;
@@ -62,7 +62,7 @@ fn repair_what_devices_missed(rt: HostRuntime) -> Result<(), Fail> {
     let mut nodes = Nodes::new(alloc, &cluster)?;
     let one = device_at(&cluster, 1).ok_or("no device")?;
     nodes.stop(one)?;
-    put(alloc, &mut nodes)?;
+    put(alloc, &mut nodes, b"abc")?;
     nodes.restart(one)?;
     let home = PassReport {
         removed: 1,

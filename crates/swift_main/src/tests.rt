@@ -41,7 +41,7 @@ fn expect_run(
 }
 
 // Runs a script behind the text of a ring, and compares what it writes.
-fn expect_done(
+pub(crate) fn expect_done(
     rt: &impl Abort,
     alloc: Global,
     ring: &str,

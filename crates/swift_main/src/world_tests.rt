@@ -74,6 +74,15 @@ fn interleaves_operations(rt: HostRuntime) -> Result<(), Fail> {
             "e 1 created 1000000000.00000 3\ne 2 created 1000000000.00001 3\n\
              e 3 found 1000000000.00001 646566 0,1\n",
         ),
+        // It rises within two rounds, and the third finds the object.
+        (
+            "put a/c/o 616263\nstart put a/c/o 646566\nstart get a/c/o\n\
+             msg 16\nmsg 17\nmsg 18\nmsg 19\nmsg 13\nmsg 14\nmsg 15\nmsg 23\nmsg 24\nmsg 25\nmsg 28\nmsg 20\nmsg 21\nmsg 22\nmsg 30\n\
+             start put a/c/o 676869\nmsg 31\nmsg 35\nmsg 36\nmsg 37\nmsg 32\nmsg 33\nmsg 34\nmsg 41\nmsg 42\nmsg 43\nmsg 46\n\
+             msg 38\nmsg 39\nmsg 40\nmsg 48\nall\n",
+            "e 1 created 1000000000.00000 3\ne 2 created 1000000000.00001 3\n\
+             e 4 created 1000000000.00002 3\ne 3 found 1000000000.00002 676869 0,1\n",
+        ),
         // A handoff serves two puts, and a disk is lost.
         (
             "stop 1\nput a/c/o 616263\nrestart 1\nstop 0\nstart put a/c/o 646566\n\

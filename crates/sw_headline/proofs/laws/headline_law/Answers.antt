@@ -1,4 +1,7 @@
 use Rattle.sw_alone.proofs.Ends.{alone_kept, alone_not_overtaken}
+use Rattle.sw_complete.proofs.DeleteEnds.{delete_deleted}
+use Rattle.sw_complete.proofs.GetComplete.{get_complete}
+use Rattle.sw_complete.proofs.PutEnds.{put_created}
 use Rattle.sw_headline.proofs.Invariants.{invariant}
 use Rattle.sw_headline.proofs.NeverOlder.{never_older}
 use Rattle.sw_headline.proofs.Shows.{shows}
@@ -22,3 +25,12 @@ returns-clause-alone c = λ cluster world number operation begun turns alone the
   alone_kept cluster world number operation begun turns alone there get are alike,
   λ events ends. alone_not_overtaken cluster world number operation begun events alone there get alike ends,
 )
+
+pub returns-clause-puts_in_full : goal.returns-clause-puts_in_full
+returns-clause-puts_in_full c = λ cluster old new name object operation begun alone ready room is. put_created cluster old new name object operation alone ready room begun is
+
+pub returns-clause-deletes_in_full : goal.returns-clause-deletes_in_full
+returns-clause-deletes_in_full c = λ cluster old new name operation begun alone ready is. delete_deleted cluster old new name operation alone ready begun is
+
+pub returns-clause-gets_in_full : goal.returns-clause-gets_in_full
+returns-clause-gets_in_full c = get_complete
