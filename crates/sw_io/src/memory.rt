@@ -1,77 +1,29 @@
 //! A source and a sink in memory, for tests: each tells all that it has, and can be set to fail.
 
-ghost use Rattle.std.specs.Prelude.{◌≡◌, ◌≢◌, ◌↔◌, ◌<◌, ◌≤◌, if◌then◌else◌, [], length, IsTrue, IsErr, IfOk};
+ghost use Rattle.std.specs.Prelude.{◌≡◌, ◌↔◌, ◌<◌, ◌≤◌, [], length, IsErr, IfOk};
 ghost use Rattle.std.specs.Io.KnownBytes.{ReadConsumes, WriteAppends};
-ghost use Rattle.sw_words.specs.Counts.{CountsFailure, FailsByCount, one_more};
+ghost use Rattle.sw_words.specs.Counts.{CountsFailure, FailsByCount};
 ghost use Rattle.sw_io.specs.Memory.{one_fewer};
 
+use crate::fuse::Fuse;
+use crate::stock::Stock;
 use crate::{ReadFailed, Sink, Source, WriteFailed};
 use std::alloc::Global;
 use std::marker::Model;
 
-// Lets so many calls go on, and counts those that fail.
-#[derive(Debug, Drop)]
-struct Fuse {
-    calls_left: Option<u64>,
-    faults: u64,
-}
-
-impl Fuse {
-    fn new() -> Self
-        ensures { result ≡ record { calls_left = None; faults = 0 } }
-    {
-        Fuse {
-            calls_left: None,
-            faults: 0,
-        }
-    }
-
-    // Takes one call off, and tells whether it may go on. Where it may not, that is a fault.
-    fn passes(&mut self) -> bool
-        ensures passes { IsTrue result ↔ (self.old.calls_left ≢ Some 0) }
-        ensures calls { self.new.calls_left ≡ one_fewer self.old.calls_left }
-        ensures faults { self.new.faults ≡ (if result then self.old.faults else one_more self.old.faults) }
-        ensures never_falls { self.old.faults ≤ self.new.faults }
-    {
-        match self.calls_left {
-            None => true,
-            Some(0) => {
-                self.fail();
-                false
-            }
-            Some(calls) => {
-                self.calls_left = Some(calls - 1);
-                true
-            }
-        }
-    }
-
-    fn fail(&mut self)
-        ensures calls { self.new.calls_left ≡ self.old.calls_left }
-        ensures faults { self.new.faults ≡ one_more self.old.faults }
-        ensures never_falls { self.old.faults ≤ self.new.faults }
-    {
-        self.faults = self.faults.saturating_add(1);
-    }
-}
-
 /// A source that gives the bytes that it was made with. It fails only by its fuse.
 #[derive(Debug, Drop)]
 pub struct MemSource {
-    all: Vec<u8>,
-    given: usize,
+    stock: Stock,
     fuse: Fuse,
 }
 
 impl Model for MemSource {
-    ghost use Rattle.std.specs.Prelude.{◌≤◌, drop, vec_len};
     ghost use Rattle.sw_io.specs.Memory.{MemoryModel};
 
     ghost Value = { MemoryModel };
 
-    ghost view = { λ s. record { bytes = drop s.given s.all.items; calls_left = s.fuse.calls_left; faults = s.fuse.faults } };
-
-    ghost invariant = { λ s. s.given ≤ vec_len s.all };
+    ghost view = { λ s. record { bytes = s.stock; calls_left = s.fuse.calls_left; faults = s.fuse.faults } };
 }
 
 impl MemSource {
@@ -82,8 +34,7 @@ impl MemSource {
         ensures no_fault { result.faults ≡ 0 }
     {
         MemSource {
-            all: bytes,
-            given: 0,
+            stock: Stock::new(bytes),
             fuse: Fuse::new(),
         }
     }
@@ -115,11 +66,7 @@ impl Source for MemSource {
         if !self.fuse.passes() {
             return Err(ReadFailed);
         }
-        let left = &self.all[self.given..];
-        let count = left.len().min(room.len());
-        room[..count].copy_from_slice(&left[..count]);
-        self.given += count;
-        Ok(count)
+        Ok(self.stock.give(room))
     }
 }
 

@@ -4,6 +4,7 @@ use super::*;
 use std::io;
 use std::io::{ErrorKind, Read, Write};
 use std::test::Fail;
+use sw_types::Stamp;
 
 const TEXT: &[u8] = b"from here to there";
 
@@ -129,5 +130,36 @@ fn adapters_pass_on_failures(rt: HostRuntime) -> Result<(), Fail> {
     let mut sink = WriteSink::new(room.as_mut_slice());
     assert_eq!(rt; write_all(&mut sink, b"hello"), Err(WriteFailed));
     assert_eq!(rt; room.as_slice(), b"hell".as_slice());
+    Ok(())
+}
+
+#[test]
+fn a_connection_in_memory_gives_and_keeps(rt: HostRuntime) -> Result<(), Fail> {
+    let alloc = rt.alloc();
+    let mut conn = MemConn::new(alloc, b"hello".to_vec(alloc)?);
+    conn.give_at_most(2);
+    let mut room = [0; 4];
+    for want in ["he", "ll", "o", ""] {
+        let count = conn.read(&mut room)?;
+        assert_eq!(rt; &room[..count], want.as_bytes());
+        assert_eq!(rt; conn.write(b"ok")?, 2);
+    }
+    conn.fuse(1);
+    assert_eq!(rt; conn.write(b"!")?, 1);
+    assert_eq!(rt; conn.read(&mut room), Err(ReadFailed));
+    assert_eq!(rt; conn.write(b"!"), Err(WriteFailed));
+    conn.close();
+    assert_eq!(rt; conn.written(), b"okokokok!".as_slice());
+    assert_eq!(rt; conn.is_closed(), true);
+    Ok(())
+}
+
+#[test]
+fn a_clock_in_memory_stands(rt: HostRuntime) -> Result<(), Fail> {
+    let clock = MemClock::new(Stamp::make(100_000_000_000_000).unwrap());
+    assert_eq!(rt;
+        clock.now().print().as_slice(),
+        b"1000000000.00000".as_slice()
+    );
     Ok(())
 }

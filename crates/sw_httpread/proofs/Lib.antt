@@ -1,0 +1,13 @@
+pub mod BodyLaws
+pub mod ChunkLines
+pub mod Chunks
+pub mod Ends
+pub mod HeadLaws
+pub mod HeadParts
+pub mod Heads
+pub mod Parses
+pub mod Pieces
+pub mod Places
+pub mod Sections
+pub mod Standings
+pub mod Takes

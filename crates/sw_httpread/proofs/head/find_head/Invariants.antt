@@ -1,0 +1,15 @@
+use Rattle.std.proofs.Common.{◌≡◌, ◌-◌, length}
+use Rattle.sw_httpread.specs.Lines.{IsWholeHead}
+use Rattle.sw_httpread.specs.Ends.{IsUnended}
+use Rattle.sw_httpread.specs.Reading.{Grew}
+use Rattle.sw_httpread.proofs.head.find_head.Given as goal
+
+abbrev pub invariant-reading : goal.invariant-reading
+invariant-reading g l = record {
+  grew : Grew (IsUnended IsWholeHead) (g.N.Conn.remaining l.fn.conn) (g.N.Conn.remaining l.conn) l.fn.carry l.carry;
+  written : g.N.Conn.written l.conn ≡ g.N.Conn.written l.fn.conn;
+  quiet : g.N.Conn.faults l.conn ≡ g.N.Conn.faults l.fn.conn;
+}
+
+abbrev pub decreases-reading : goal.decreases-reading
+decreases-reading g l = 8192 - length l.carry

@@ -1,0 +1,9 @@
+pub mod Bodies
+pub mod Chunks
+pub mod Ends
+pub mod Heads
+pub mod Lines
+pub mod Parsed
+pub mod Reading
+pub mod Request
+pub mod Steps

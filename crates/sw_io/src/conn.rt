@@ -1,0 +1,44 @@
+//! Connections.
+
+ghost use Rattle.std.specs.Prelude.{◌≡◌, ℕ, ◌<◌, ◌≤◌, List, Option, IfOk, length};
+ghost use Rattle.std.specs.Io.KnownBytes.{ReadConsumes, WriteAppends};
+ghost use Rattle.sw_words.specs.Counts.{CountsFailure, FailsByCount};
+
+use crate::{ReadFailed, WriteFailed};
+
+/// A connection to a peer: bytes come from it and go to it.
+pub trait Conn {
+    /// The bytes that are left to come, where the connection tells.
+    ghost remaining: { Self → Option (List ℕ) };
+
+    /// The bytes that were written, where the connection tells.
+    ghost written: { Self → Option (List ℕ) };
+
+    /// How often reading or writing has failed.
+    ghost faults: { Self → ℕ };
+
+    /// Reads into the front of `room`, and answers how many bytes came. None come only where the peer sends no more, and
+    /// none are lost at `Err`.
+    fn read(&mut self, room: &mut [u8]) -> Result<usize, ReadFailed>
+        requires { 0 < length room.old }
+        ensures count { IfOk result (λ n. n ≤ length room.new) }
+        ensures bytes { ReadConsumes (remaining self.old) (remaining self.new) result room.new }
+        ensures written { written self.new ≡ written self.old }
+        ensures cause { FailsByCount (faults self.old) (faults self.new) result }
+        ensures counted { CountsFailure (faults self.old) (faults self.new) result };
+
+    /// Writes a front of `piece`, at least one byte, and answers how many.
+    fn write(&mut self, piece: &[u8]) -> Result<usize, WriteFailed>
+        requires { 0 < length piece.now }
+        ensures count { IfOk result (λ n. (0 < n) × (n ≤ length piece.now)) }
+        ensures bytes { WriteAppends (written self.old) (written self.new) result piece.now }
+        ensures remaining { remaining self.new ≡ remaining self.old }
+        ensures cause { FailsByCount (faults self.old) (faults self.new) result }
+        ensures counted { CountsFailure (faults self.old) (faults self.new) result };
+
+    /// Ends the connection for the peer. What was read and written stays, and so does the count.
+    fn close(&mut self)
+        ensures remaining { remaining self.new ≡ remaining self.old }
+        ensures written { written self.new ≡ written self.old }
+        ensures faults { faults self.new ≡ faults self.old };
+}
