@@ -27,7 +27,7 @@ pub trait Draw: Link {
     /// How many draws were refused.
     ghost refusals: { Self → ℕ };
 
-    /// Draws the stamp of a put of an object, or of a delete where there is none. It takes no memory. Where the link tells still, it has
+    /// Draws the stamp of a put of an object, or of a delete where there is none. It answers no want of memory. Where the link tells still, it has
     /// learnt of the put or the delete.
     fn draw(&mut self, name: &Name, object: Option<&Object>) -> Result<Stamp, DrawFault>
         requires name { name_fault name.now ≡ None }

@@ -1,9 +1,11 @@
 -- A call of a link that tells: it has learnt the reply, and its files are those of puts still.
 use Rattle.std.proofs.Common.{◌≡◌, ◌∙◌, ℕ, Bool, true, false, Contains, List, Option, Some, None, refl, sym, ap, subst}
 use Rattle.std.proofs.lemmas.List.Elements.{Contains-append_left, Contains-push}
-use Rattle.sw_message.specs.Learnt.{Booked, Keeps, Learnt}
+use Rattle.sw_types.specs.Policy.{PolicyModel}
+use Rattle.sw_message.specs.Learnt.{Keeps, Learnt}
 use Rattle.sw_message.specs.Message.{IsPlaceOf, place_in}
 use Rattle.sw_message.specs.Running.{Hears, StillTells}
+use Rattle.sw_message.specs.Soundly.{is_sound_learnt, stamps_of}
 use Rattle.sw_message.specs.Warrant.{IsWarranted}
 use Rattle.sw_message.specs.declared.message.Msg.{Msg}
 use Rattle.sw_message.specs.declared.reply.Reply.{Reply}
@@ -20,6 +22,14 @@ module _ (known : Learnt) (device : ℕ) (msg : Msg) where
   pub same_book : (answer : Option Reply) → (with_reply known device msg answer).book ≡ known.book
   same_book None = refl
   same_book (Some reply) = refl
+
+  same_stamps : (answer : Option Reply) → stamps_of (with_reply known device msg answer) ≡ stamps_of known
+  same_stamps None = refl
+  same_stamps (Some reply) = refl
+
+  same_sound : (policy : PolicyModel) (answer : Option Reply) → is_sound_learnt policy (with_reply known device msg answer) ≡ is_sound_learnt policy known
+  same_sound policy None = refl
+  same_sound policy (Some reply) = refl
 
   pub keeps_reply : (answer : Option Reply) → Keeps known (with_reply known device msg answer)
   keeps_reply None = record { book = λ booked has. has; marks = λ marked has. has; heard = λ heard has. has }
@@ -55,15 +65,15 @@ module _ (before : TellingModel) (was : IsTelling before) (device : ℕ) (msg : 
         let book : known'.book ≡ before.known.book = ap (λ (known : Learnt). known.book) all.2 ∙ same_book before.known device msg answer in
         record {
           goes_on = all.1;
-          book = rw (cluster_is, book) tells.book;
-          drawn = λ booked has. tells.drawn booked (subst (λ (book : List Booked). Contains book booked) book has);
+          sound = rw (cluster_is, all.2) (same_sound before.known device msg before.nodes.cluster.policy answer ∙ tells.sound);
+          drawn = λ stamp has. tells.drawn stamp (subst (λ (stamps : List ℕ). Contains stamps stamp) (ap stamps_of all.2 ∙ same_stamps before.known device msg answer) has);
           filed = rw (cluster_is, book) (filed_after all.0 all.1 answer calls);
         }
 
     after_call : IsTelling after
     after_call = record { rules = subst KeepsRules (sym cluster_is) was.rules; tells = tells_after }
 
-    still_after : StillTells (learnt_by before) (learnt_by after)
+    still_after : StillTells (is_silent' ≡ true) (learnt_by before) (learnt_by after)
     still_after = still_by before after was after_call (λ silent. ((goes silent).0, subst (Keeps before.known) (sym (goes silent).2) (keeps_reply before.known device msg answer)))
 
     heard_after : Hears (Some nodes'.cluster) (learnt_by after) device msg answer
@@ -80,8 +90,8 @@ module _ (before : TellingModel) (was : IsTelling before) (device : ℕ) (msg : 
     pub is_telling : IsTelling after
     is_telling = subst IsTelling (sym after_is) (after_call after.known after.is_silent goes)
 
-    pub still_tells : StillTells (learnt_by before) (learnt_by after)
-    still_tells = subst (λ (one : TellingModel). StillTells (learnt_by before) (learnt_by one)) (sym after_is) (still_after after.known after.is_silent goes)
+    pub still_tells : StillTells (after.is_silent ≡ true) (learnt_by before) (learnt_by after)
+    still_tells = subst (λ (one : TellingModel). StillTells (after.is_silent ≡ true) (learnt_by before) (learnt_by one)) (sym after_is) (still_after after.known after.is_silent goes)
 
     pub hears : Hears (Some after.nodes.cluster) (learnt_by after) device msg answer
     hears = subst (λ (one : TellingModel). Hears (Some one.nodes.cluster) (learnt_by one) device msg answer) (sym after_is) (heard_after after.known after.is_silent goes)

@@ -30,8 +30,8 @@ pub record PutAndGot (cluster : ClusterModel) (clock : ℕ) (name : NameModel) (
   pub between : TellingModel
   pub last : TellingModel
   pub is_new : IsNew cluster clock first
-  pub puts : PutsOver Draws Calls losses cluster name object first (Ok created) between
-  pub gets : GetsOver Calls losses (learnt_by last) (record { cluster = cluster; name = name }) between (Ok found) last
+  pub puts : PutsOver Draws Calls losses learnt_by cluster name object first (Ok created) between
+  pub gets : GetsOver Calls losses learnt_by (record { cluster = cluster; name = name }) between (Ok found) last
   pub speaks : last.is_silent ≡ false
   pub tells : learnt_by last ≡ Some last.known
 

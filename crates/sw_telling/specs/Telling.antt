@@ -5,8 +5,8 @@ use Rattle.sw_types.specs.Name.{NameModel}
 use Rattle.sw_types.specs.Object.{ObjectModel}
 use Rattle.sw_types.specs.Stamp.{greatest_stamp}
 use Rattle.sw_ring.specs.Cluster.{KeepsRules}
-use Rattle.sw_message.specs.Learnt.{Booked, Learnt}
-use Rattle.sw_message.specs.Soundly.{is_sound_book, told_soundly}
+use Rattle.sw_message.specs.Learnt.{Learnt}
+use Rattle.sw_message.specs.Soundly.{is_sound_learnt, stamps_of, told_soundly}
 use Rattle.sw_message.specs.declared.draw.DrawFault.{DrawFault}
 use Rattle.sw_message.specs.declared.message.Msg.{Msg}
 use Rattle.sw_message.specs.declared.reply.Reply.{Reply}
@@ -30,16 +30,16 @@ pub record TellingModel : Type 0 where
 abbrev pub nothing_known : Learnt
 nothing_known = record { book = []; marks = []; heard = [] }
 
--- What it tells: what it has learnt, unless it is silent. A book that is not sound is told by none.
+-- What it tells: what it has learnt, unless it is silent. Puts and deletes that are not sound are told by none.
 abbrev pub learnt_by : TellingModel → Option Learnt
 learnt_by telling = if telling.is_silent then None else told_soundly telling.nodes.cluster.policy telling.known
 
--- What always holds of one that is not silent: no node wanted memory; the book is sound, and its stamps were drawn; each archive in the
+-- What always holds of one that is not silent: no node wanted memory; what it has learnt is sound, and its stamps were drawn; each archive in the
 -- files of its nodes is that of a put of the book.
 pub record Tells (telling : TellingModel) : Type 0 where
   pub goes_on : telling.nodes.is_wanting ≡ false
-  pub book : is_sound_book telling.nodes.cluster.policy telling.known.book ≡ true
-  pub drawn : (booked : Booked) → Contains telling.known.book booked → IsDrawn telling.last booked.stamp
+  pub sound : is_sound_learnt telling.nodes.cluster.policy telling.known ≡ true
+  pub drawn : (stamp : ℕ) → Contains (stamps_of telling.known) stamp → IsDrawn telling.last stamp
   pub filed : AreFiled telling.nodes.cluster telling.known.book (devices_of telling.nodes.nodes)
 
 pub record IsTelling (telling : TellingModel) : Type 0 where

@@ -1,6 +1,6 @@
 //! A link that tells what it has learnt.
 
-ghost use Rattle.std.specs.Prelude.{◌≡◌, false, IfOk, OnErr, OnOk, Some};
+ghost use Rattle.std.specs.Prelude.{◌≡◌, false, true, IfOk, OnErr, OnOk, Some};
 ghost use Rattle.sw_nodes.specs.Nodes.{Stops};
 ghost use Rattle.sw_scene.specs.Moves.{next_stamp};
 ghost use Rattle.sw_telling.specs.Shown.{IsNew};
@@ -94,6 +94,8 @@ impl<'a> Link for Telling<'a> {
     ghost cluster = { λ it. Some it.nodes.cluster };
 
     ghost learnt = { learnt_by };
+
+    ghost may_be_silent = { λ it. it.is_silent ≡ true };
 
     ghost calls = { Calls };
 

@@ -1,4 +1,4 @@
-use Rattle.std.proofs.Common.{◌≡◌, ◌∙◌, false, Some, ap, refl, subst, sym}
+use Rattle.std.proofs.Common.{◌≡◌, ◌∙◌, false, true, Some, ap, refl, subst, sym}
 use Rattle.std.specs.Prelude.{option_copied}
 use Rattle.sw_message.specs.Running.{StillTells}
 use Rattle.sw_scene.specs.Moves.{next_stamp}
@@ -46,7 +46,7 @@ invariant_of-self-2 c =
     is_telling (before c) c.self.invariant c.args.name.now c.requires.name c.in-Some.stamp (stamp_is c) (rw (c.in-Some.ensures {u = tt}).1 (c.in-Some.ensures {u = tt}).0) (option_copied c.args.object) c.requires.object (after c) (after_is c) (goes c)
 
 pub returns-clause-tells : goal.returns-clause-tells
-returns-clause-tells c = subst (λ (model : TellingModel). StillTells (learnt_by model) (learnt_by (after c))) c.self.view_is
+returns-clause-tells c = subst (λ (model : TellingModel). StillTells ((after c).is_silent ≡ true) (learnt_by model) (learnt_by (after c))) c.self.view_is
     (still_tells (before c) c.self.invariant c.args.name.now c.requires.name c.in-Some.stamp (stamp_is c) (rw (c.in-Some.ensures {u = tt}).1 (c.in-Some.ensures {u = tt}).0) (option_copied c.args.object) c.requires.object (after c) (after_is c) (goes c))
 
 pub returns-clause-learns : goal.returns-clause-learns

@@ -1,4 +1,4 @@
-use Rattle.std.proofs.Common.{◌≡◌, ◌∙◌, false, Option, Some, ap, refl, subst, sym}
+use Rattle.std.proofs.Common.{◌≡◌, ◌∙◌, false, true, Option, Some, ap, refl, subst, sym}
 use Rattle.std.proofs.lemmas.Option.{same_Some}
 use Rattle.sw_message.specs.Learnt.{Learnt}
 use Rattle.sw_message.specs.Message.{IsPlaceOf, place_in}
@@ -59,7 +59,7 @@ pub invariant_of-self : goal.invariant_of-self
 invariant_of-self c = is_telling (before c) c.self.invariant c.args.device c.args.msg.now c.call-answer.result c.call-answer.new.self (cluster_is c) c.call-answer.ensures.calls (right c) (warranted c) (after c) (after_is c) (goes c)
 
 pub returns-clause-tells : goal.returns-clause-tells
-returns-clause-tells c = subst (λ (model : TellingModel). StillTells (learnt_by model) (learnt_by (after c))) c.self.view_is
+returns-clause-tells c = subst (λ (model : TellingModel). StillTells ((after c).is_silent ≡ true) (learnt_by model) (learnt_by (after c))) c.self.view_is
     (still_tells (before c) c.self.invariant c.args.device c.args.msg.now c.call-answer.result c.call-answer.new.self (cluster_is c) c.call-answer.ensures.calls (right c) (warranted c) (after c) (after_is c) (goes c))
 
 pub returns-clause-hears : goal.returns-clause-hears
