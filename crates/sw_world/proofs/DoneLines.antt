@@ -33,6 +33,10 @@ module _ (model : WorldModel) (before : Scripted) (stands : StandsFor model befo
   pub no-message : (message : ℕ) → worlds.numbered model.letters message ≡ None → event_fault before (event.Deliver message) ≡ Some NoMessage
   no-message message none = ap message_fault (none-beside model.letters before.world.scene.mail (zip-length IsLetterOf model.letters before.world.scene.mail stands.letters) message none)
 
+  -- and that of a letter is that of a message
+  pub message-there : (place : ℕ) → place < length model.letters → event_fault before (event.Deliver (suc place)) ≡ None
+  message-there place within = ap message_fault (item-at before.world.scene.mail place (omega (arith, within, zip-length IsLetterOf model.letters before.world.scene.mail stands.letters))).1
+
   -- there are no fewer letters then
   pub delivered-more : (place : ℕ) → place < length model.letters → (new : WorldModel) (old_ends new_ends : List EndLine) → LeadsByOne (Deliver (suc place)) before new old_ends new_ends → length model.letters ≤ length new.letters
   delivered-more place within new old_ends new_ends one =
@@ -45,11 +49,10 @@ module _ (model : WorldModel) (before : Scripted) (stands : StandsFor model befo
   pub deliver-does : (place : ℕ) → place < length model.letters → (new : WorldModel) (ends : List EndLine) → LeadsByOne (Deliver (suc place)) before new [] ends
       → DoesIt (event.Deliver (suc place)) before (record { sent = lines_from (suc (length model.letters)) (drop (length model.letters) new.letters); ends = ends; shown = [] }) new
   deliver-does place within new ends one =
-      let as_many = zip-length IsLetterOf model.letters before.world.scene.mail stands.letters in
       record {
         steps = step_of (Deliver (suc place)) one.after ∷ [];
         after = one.after;
-        fine = ap message_fault (item-at before.world.scene.mail place (omega (arith, within, as_many))).1;
+        fine = message-there place within;
         spare = λ spent. true≢false (sym spent.0);
         does = record {
           unfolds = refl;

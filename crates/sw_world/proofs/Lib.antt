@@ -32,4 +32,5 @@ pub mod Sweeps
 pub mod Telling
 pub mod Told
 pub mod Waiting
+pub mod Wants
 pub mod Works

@@ -1,27 +1,23 @@
 -- Lines that start an operation, and may take it to its end, are done, or are at fault.
-use Rattle.std.proofs.Common.{◌≡◌, ⊎_elim, ℕ, suc, ◌+◌, ◌<◌, ◌≤◌, ◌↔◌, Bool, true, false, true≢false, if◌then◌else◌, Contains, List, [], ◌∷◌, ◌++◌, drop, length, map, slice_get, Option, Some, None, Result, Err, IfErr, refl, sym, ap, ap₂, subst, ◌∙◌, append-nil, arith}
+use Rattle.std.proofs.Common.{◌≡◌, ⊎_elim, ℕ, suc, ◌+◌, ◌≤◌, ◌↔◌, Bool, true≢false, if◌then◌else◌, Contains, List, [], ◌∷◌, ◌++◌, drop, length, map, slice_get, Some, None, Result, Err, IfErr, refl, sym, ap, ap₂, subst, ◌∙◌, append-nil, arith}
 use Rattle.std.proofs.lemmas.Option.{slice_get_within}
-use Rattle.sw_types.specs.Stamp.{greatest_stamp}
-use Rattle.sw_ring.specs.Cluster.{ClusterModel}
 use Rattle.sw_message.specs.declared.sent.Sent.{Sent}
-use Rattle.sw_scene.specs.Moves.{next_stamp}
 use Rattle.sw_core.specs.Event.{Start, Starts}
 use Rattle.sw_core.specs.World as worlds
 use Rattle.sw_script.specs.declared.event.Event.TheVariants as event
 use Rattle.sw_script.specs.declared.event.Job.{Job}
 use Rattle.sw_script.specs.declared.event.Job.TheVariants as job
-use Rattle.sw_script.specs.declared.fault.LineFault.{LineFault}
 use Rattle.sw_script.specs.declared.fault.LineFault.TheVariants.{NoDevice}
 use Rattle.sw_told.specs.declared.end.EndLine.{EndLine}
 use Rattle.sw_told.specs.declared.sent.SentLine.{SentLine}
 use Rattle.sw_told.specs.declared.sent.SentLine.TheVariants as told
 use Rattle.sw_exchange.specs.Letters.{letter_of, lines_from}
 use Rattle.sw_exchange.specs.declared.letter.Letter.{Letter}
-use Rattle.sw_world.specs.Doing.{IsSpent, draws, job_fault}
-use Rattle.sw_world.specs.Leading.{DoesIt, FaultsBy, IsNotBegun, LeadsBy, LeadsByOne}
+use Rattle.sw_world.specs.Doing.{IsSpent, job_fault}
+use Rattle.sw_world.specs.Leading.{DoesIt, FaultsBy, LeadsBy, LeadsByOne, MayBeDone}
 use Rattle.sw_world.specs.Scripted.{Scripted, count_of}
 use Rattle.sw_world.specs.Standing.{IsKeptOf, StandsFor, WorldModel}
-use Rattle.sw_world.specs.Unfolding.{RunsOut, TellsEnds, job_of}
+use Rattle.sw_world.specs.Unfolding.{RunsOut, job_of}
 use Rattle.sw_world.specs.declared.fault.StepFault.{StepFault}
 use Rattle.sw_world.specs.declared.fault.StepFault.TheVariants.{NoMemory, NoSuchDevice, NoSuchMessage, NoSuchOperation, StampsSpent}
 use Rattle.sw_world.proofs.MadeLines.{lines-made}
@@ -46,13 +42,17 @@ starts-spare before (job.Head name) after starts spent = true≢false (sym spent
 starts-spare before (job.Delete name) after starts spent = omega (arith, starts.0, spent.1)
 starts-spare before (job.Recon device name) after starts spent = true≢false (sym spent.0)
 
+-- so it may be done
+pub start-may : (before : Scripted) (one : Job) (new : WorldModel) (first ends : List EndLine) → LeadsByOne (Start (job_of one)) before new first ends → MayBeDone before (event.Start one)
+start-may before one new first ends leads = (starts-fine before one leads.after.world leads.is_step.happens, starts-spare before one leads.after.world leads.is_step.happens)
+
 -- one that was not begun was not run
 run-faults : (old new : WorldModel) (before : Scripted) (one : Job) (fault : StepFault) → FaultsBy (event.Start one) before fault old new → FaultsBy (event.Run one) before fault old new
 run-faults old new before one NoSuchMessage is = is
 run-faults old new before one NoSuchDevice is = is
 run-faults old new before one NoSuchOperation is = is
 run-faults old new before one StampsSpent is = is
-run-faults old new before one NoMemory is = tt
+run-faults old new before one NoMemory is = is
 
 -- so the fault that came out of it is one of the run
 pub not-run : {Answered : Type 0} (old new : WorldModel) (before : Scripted) (one : Job) (result : Result Answered StepFault) (fault cause : StepFault) → result ≡ Err fault → fault ≡ cause → FaultsBy (event.Start one) before cause old new

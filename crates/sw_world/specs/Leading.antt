@@ -1,5 +1,5 @@
 -- How calls of a world lead it on.
-use Rattle.std.specs.Prelude.{◌≡◌, ◌≤◌, ◌<◌, ℕ, ◌+◌, true, List, [], ◌∷◌, ◌++◌, map, Option, Some, None, ⊤}
+use Rattle.std.specs.Prelude.{◌≡◌, ◌≤◌, ◌<◌, ℕ, true, List, [], ◌∷◌, ◌++◌, map, Option, Some, None}
 use Rattle.std.specs.List.{AllZip}
 use Rattle.sw_types.specs.Stamp.{greatest_stamp}
 use Rattle.sw_archive.specs.Put.{IsPut}
@@ -73,11 +73,11 @@ IsBegunBy cluster clock last (job.Head name) begun later = (begun ≡ Head (reco
 IsBegunBy cluster clock last (job.Recon device name) begun later =
     IsMember cluster device × (begun ≡ core.recon_of (is_primary cluster device (place_of_name cluster name)) cluster device name) × (later ≡ last)
 
--- why a job is not begun; the world is as before
+-- why a job is not begun; the world is as before, unless memory was wanted
 abbrev pub IsNotBegun : ClusterModel → (clock : ℕ) → (last : Option ℕ) → Job → StepFault → (old new : WorldModel) → Type 0
 IsNotBegun cluster clock last job NoSuchDevice old new = (job_fault cluster job ≡ Some NoDevice) × (new ≡ old)
 IsNotBegun cluster clock last job StampsSpent old new = (job_fault cluster job ≡ None) × (draws job ≡ true) × (greatest_stamp < next_stamp clock last) × (new ≡ old)
-IsNotBegun cluster clock last job NoMemory old new = ⊤
+IsNotBegun cluster clock last job NoMemory old new = (job_fault cluster job ≡ None) × (draws job ≡ true → next_stamp clock last ≤ greatest_stamp)
 IsNotBegun cluster clock last job fault old new = ⊥
 
 -- ---- lines
@@ -91,10 +91,15 @@ pub record DoesIt (event : Event) (before : Scripted) (told : Told) (left : Worl
   pub does : DoesEvent before (record { event = event; steps = steps; told = told; after = after })
   pub stands : StandsFor left after
 
--- it was not: its line has a fault in the world, or the stamps are spent, and the world is as before; or memory was wanted
+-- the line of an event has no fault in the world, and a stamp is left for it
+abbrev pub MayBeDone : Scripted → Event → Type 0
+MayBeDone before event = (event_fault before event ≡ None) × (IsSpent before event → ⊥)
+
+-- it was not: its line has a fault in the world, or the stamps are spent, and the world is as before; or none of these, and memory was
+-- wanted
 abbrev pub FaultsBy : Event → (before : Scripted) → StepFault → (old new : WorldModel) → Type 0
 FaultsBy event before NoSuchMessage old new = (event_fault before event ≡ Some NoMessage) × (new ≡ old)
 FaultsBy event before NoSuchDevice old new = (event_fault before event ≡ Some NoDevice) × (new ≡ old)
 FaultsBy event before NoSuchOperation old new = (event_fault before event ≡ Some NoOperation) × (new ≡ old)
 FaultsBy event before StampsSpent old new = (event_fault before event ≡ None) × IsSpent before event × (new ≡ old)
-FaultsBy event before NoMemory old new = ⊤
+FaultsBy event before NoMemory old new = MayBeDone before event

@@ -33,10 +33,11 @@ impl<'a> Inner<'a> {
         Ok(self.told_since(count, None, ends)?)
     }
 
-    /// Delivers the least message that waits, until none does.
+    /// Delivers the least message that waits, until none does. The next time none of those that there are is looked at again.
     pub(crate) fn deliver_all(&mut self) -> Result<Told, NoMemory>
         requires { Stands self.old }
         ensures does { (before : Scripted) → StandsFor self.old before → IfOk result (λ told. DoesIt event.All before told self.new) }
+        ensures behind { OnOk result (self.new.first ≡ length self.new.letters) }
         ensures cluster { self.new.cluster ≡ self.old.cluster }
     {
         let mut ends = Vec::new(self.alloc);

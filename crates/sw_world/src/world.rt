@@ -68,7 +68,7 @@ impl<'a> World<'a> {
     }
 
     /// Takes the world through the basic events of a line, and answers what is told of them. After a fault but want of memory it is as
-    /// before. Once it wanted memory it answers so from then on.
+    /// before. It wants memory only for a line that has none of the other faults. Once it wanted memory it answers so from then on.
     pub fn step(&mut self, event: &Event) -> Result<Told, StepFault>
         ensures does { (before : Scripted) → StandsFor self.old before → IfOk result (λ told. DoesIt event.now before told self.new) }
         ensures faults { (before : Scripted) → StandsFor self.old before → IfErr result (λ fault. FaultsBy event.now before fault self.old self.new) }

@@ -4,9 +4,12 @@ use Rattle.sw_message.specs.declared.sent.Sent.{Sent}
 use Rattle.sw_exchange.specs.Exchange.{Proceeded}
 use Rattle.sw_exchange.specs.Kept.{IsAt}
 use Rattle.sw_exchange.specs.declared.operating.Operating.{Operating}
+use Rattle.sw_script.specs.declared.event.Event.TheVariants as event
+use Rattle.sw_world.specs.Leading.{FaultsBy}
 use Rattle.sw_world.specs.Standing.{WorldModel}
 use Rattle.sw_world.specs.WorldInside.{inner_seen}
 use Rattle.sw_world.proofs.Beginnings.{kept-last, kept-leads, kept-letters, kept-there}
+use Rattle.sw_world.proofs.Wants.{begun-may, not-begun, passed-on, wanted}
 use Rattle.sw_world.proofs.inner.Inner.begin.Goals as goal
 
 module _ (c : goal.In_ok-proceed) where
@@ -44,3 +47,20 @@ pub returns-clause-leads : goal.returns-clause-leads
 returns-clause-leads c before stands =
     kept-leads c.self.inside c.in_ok-number.number (kept c) c.keep.new.self c.in_ok-number.ensures c.in_ok-op.ensures.begun.0 c.proceed.new.self c.args.ends.now.items c.proceed.new.ends.items (proceeded c)
     c.args.self.now before stands c.begun.new.self.last (seen c) c.args.job.now c.in_ok-op.ensures.begun.1
+
+-- ---- where it is not begun, or not kept
+
+pub returns-in_err-op-clause-faults : goal.returns-in_err-op-clause-faults
+returns-in_err-op-clause-faults c before stands =
+    passed-on (λ fault. FaultsBy (event.Start c.args.job.now) before fault c.args.self.now c.begun.new.self) c.from_residual.result c.in_err-op.field-0.0 c.from_residual.ensures.1
+    (not-begun c.args.self.now before stands c.args.job.now c.in_err-op.field-0.0 c.begun.new.self c.in_err-op.ensures.faults)
+
+pub returns-in_err-number-clause-faults : goal.returns-in_err-number-clause-faults
+returns-in_err-number-clause-faults c before stands =
+    wanted (event.Start c.args.job.now) before c.args.self.now _ c.from_residual-in_err-number.result c.from_residual-in_err-number.ensures.1
+    (begun-may c.args.self.now before stands c.args.job.now c.in_ok-op.ensures.begun.0 c.begun.new.self.last c.in_ok-op.ensures.begun.1)
+
+pub returns-in_err-proceed-clause-faults : goal.returns-in_err-proceed-clause-faults
+returns-in_err-proceed-clause-faults c before stands =
+    wanted (event.Start c.args.job.now) before c.args.self.now _ c.from_residual-in_err-proceed.result c.from_residual-in_err-proceed.ensures.1
+    (begun-may c.args.self.now before stands c.args.job.now c.in_ok-op.ensures.begun.0 c.begun.new.self.last c.in_ok-op.ensures.begun.1)

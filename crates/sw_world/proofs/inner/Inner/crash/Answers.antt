@@ -1,4 +1,4 @@
-use Rattle.std.proofs.Common.{◌≡◌, ◌<◌, ℕ, List, Some, slice_get, slice_index_or, slice_set, inl, inr, refl, sym, ap, subst, ◌∙◌, length}
+use Rattle.std.proofs.Common.{◌≡◌, ◌<◌, ℕ, List, Some, None, slice_get, slice_index_or, slice_set, inl, inr, refl, sym, ap, subst, ◌∙◌, length}
 use Rattle.std.proofs.lemmas.Result.{err_from_is_err_and}
 use Rattle.sw_message.specs.Running.{IsOf}
 use Rattle.sw_core.specs.World.{numbered}
@@ -18,6 +18,8 @@ use Rattle.sw_world.proofs.Crashing.{CrashesOrNot, crashes-does, no-message, no-
 use Rattle.sw_world.proofs.Delivered.{may-call}
 use Rattle.sw_world.proofs.Deliveries.{with_nodes}
 use Rattle.sw_world.proofs.Places.{indexed}
+use Rattle.sw_world.proofs.LetterMails.{request-of}
+use Rattle.sw_world.proofs.Wants.{drawing-none, wanted}
 use Rattle.sw_world.proofs.inner.Inner.crash.Goals as goal
 use Rattle.sw_world.proofs.inner.Inner.crash.Goals.{else-not-is_down, then-not-is_down+in_ok-crash}
 
@@ -100,3 +102,14 @@ returns-clause-does c before stands = elim c.if-not-is_down.branch [
   | then-not-is_down+in_ok-crash w ↦ does c before stands w.crash.new.self w.self-inside-is (inr (sym w.if-not-is_down.ensures, w.in_ok-crash.ensures.crashes))
   | else-not-is_down w ↦ does c before stands c.self.inside.nodes w.self-inside-is (inl (sym w.if-not-is_down.ensures, refl))
 ]
+
+-- ---- memory that is wanted for it
+
+pub returns-in_err-crash-clause-faults : goal.returns-in_err-crash-clause-faults
+returns-in_err-crash-clause-faults c before stands =
+    let line = event.Crash c.args.message c.args.calls c.args.pick in
+    let letter = c.index-letters-place.result in
+    let there = found c.self.inside c.args.self.now c.letters.result.now c.in_ok-place.place letter c.self.view_is c.in_ok-place.ensures.1 c.letters.ensures c.index-letters-place.is in
+    let ask = request-of (inner_seen c.self.inside) before (seen c.self.inside c.args.self.now before c.self.view_is stands) c.in_ok-place.place letter there c.in-Request.msg c.in-Request.is in
+    wanted line before c.args.self.now _ c.from_residual-in_err-crash.result c.from_residual-in_err-crash.ensures.1
+    (drawing-none line before (subst (λ (message : ℕ). request_fault (numbered before.world.scene.mail message) ≡ None) (sym c.in_ok-place.ensures.0) (ap request_fault ask.made)) refl)

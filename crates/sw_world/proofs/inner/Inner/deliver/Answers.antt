@@ -1,4 +1,4 @@
-use Rattle.std.proofs.Common.{◌≡◌, ℕ, suc, List, [], drop, length, IfErr, Result, Err, refl, sym, ap, subst, ◌∙◌, arith}
+use Rattle.std.proofs.Common.{◌≡◌, ℕ, suc, List, [], drop, length, IfErr, None, Result, Err, refl, sym, ap, subst, ◌∙◌, arith}
 use Rattle.std.proofs.lemmas.Result.{err_from_is_err_and}
 use Rattle.sw_core.specs.Event as core
 use Rattle.sw_script.specs.declared.event.Event.TheVariants as event
@@ -6,10 +6,12 @@ use Rattle.sw_told.specs.declared.end.EndLine.{EndLine}
 use Rattle.sw_told.specs.declared.told.Told.{Told}
 use Rattle.sw_exchange.specs.Letters.{lines_from}
 use Rattle.sw_exchange.specs.declared.letter.Letter.{Letter}
+use Rattle.sw_world.specs.Doing.{event_fault}
 use Rattle.sw_world.specs.Leading.{DoesIt, LeadsByOne}
 use Rattle.sw_world.specs.Standing.{WorldModel}
 use Rattle.sw_world.specs.declared.fault.StepFault.TheVariants.{NoSuchMessage}
-use Rattle.sw_world.proofs.DoneLines.{deliver-does, delivered-more, no-message}
+use Rattle.sw_world.proofs.DoneLines.{deliver-does, delivered-more, message-there, no-message}
+use Rattle.sw_world.proofs.Wants.{drawing-none, wanted}
 use Rattle.sw_world.proofs.inner.Inner.deliver.Goals as goal
 
 -- what holds of the error holds where it is one
@@ -42,3 +44,15 @@ returns-clause-does c = λ before stands.
     (sym (c.in_ok-told_since.ensures ∙ ap (λ (letters : List Letter). record { sent = lines_from (suc (length letters)) (drop (length letters) new.letters); ends = ends; shown = [] }) same))
     (subst (λ (message : ℕ). DoesIt (event.Deliver message) before (record { sent = lines_from (suc (length c.args.self.now.letters)) (drop (length c.args.self.now.letters) new.letters); ends = ends; shown = [] }) new) (sym c.in_ok-place.ensures.0)
     (deliver-does c.args.self.now before stands place c.in_ok-place.ensures.1 new ends one))
+
+pub returns-in_err-deliver_at-clause-faults : goal.returns-in_err-deliver_at-clause-faults
+returns-in_err-deliver_at-clause-faults c before stands =
+    wanted (event.Deliver c.args.message) before c.args.self.now _ c.from_residual-in_err-deliver_at.result c.from_residual-in_err-deliver_at.ensures.1
+    (drawing-none (event.Deliver c.args.message) before
+    (subst (λ (message : ℕ). event_fault before (event.Deliver message) ≡ None) (sym c.in_ok-place.ensures.0) (message-there c.args.self.now before stands c.in_ok-place.place c.in_ok-place.ensures.1)) refl)
+
+pub returns-in_err-told_since-clause-faults : goal.returns-in_err-told_since-clause-faults
+returns-in_err-told_since-clause-faults c before stands =
+    wanted (event.Deliver c.args.message) before c.args.self.now _ c.from_residual-in_err-told_since.result c.from_residual-in_err-told_since.ensures.1
+    (drawing-none (event.Deliver c.args.message) before
+    (subst (λ (message : ℕ). event_fault before (event.Deliver message) ≡ None) (sym c.in_ok-place.ensures.0) (message-there c.args.self.now before stands c.in_ok-place.place c.in_ok-place.ensures.1)) refl)

@@ -4,10 +4,12 @@ use Rattle.sw_told.specs.declared.end.EndLine.{EndLine}
 use Rattle.sw_told.specs.declared.told.Told.{Told}
 use Rattle.sw_exchange.specs.Letters.{lines_from}
 use Rattle.sw_exchange.specs.declared.letter.Letter.{Letter}
+use Rattle.sw_world.specs.Doing.{operation_fault}
 use Rattle.sw_world.specs.Leading.{DoesIt, GivesUpOpen, LeadsBy}
 use Rattle.sw_world.specs.Standing.{WorldModel}
 use Rattle.sw_world.proofs.DoneLines.{give-up-does, given-up-more, no-operation}
 use Rattle.sw_world.proofs.Told.{operation-of}
+use Rattle.sw_world.proofs.Wants.{drawing-none, wanted}
 use Rattle.sw_world.proofs.inner.Inner.give_up_open.Goals as goal
 use Rattle.sw_world.proofs.inner.Inner.give_up_open.Goals.{then-number-eq0-via-else-number-eq0+then-number-started, then-number-eq0-via-then-number-eq0}
 
@@ -42,3 +44,15 @@ returns-clause-does c = λ before stands.
     subst (λ (told : Told). DoesIt (event.GiveUp number) before told new)
     (sym (c.in_ok-told_since.ensures ∙ ap (λ (letters : List Letter). record { sent = lines_from (suc (length letters)) (drop (length letters) new.letters); ends = ends; shown = [] }) same))
     (give-up-does c.args.self.now before stands number at.operation at.there new ends leads)
+
+pub returns-in_err-give_up_each-clause-faults : goal.returns-in_err-give_up_each-clause-faults
+returns-in_err-give_up_each-clause-faults c before stands =
+    let within : c.args.number ≤ length c.args.self.now.operations = omega (arith, c.if-number-started.false, c.started.ensures, ap (λ (model : WorldModel). length model.operations) c.self.view_is) in
+    wanted (event.GiveUp c.args.number) before c.args.self.now _ c.from_residual.result c.from_residual.ensures.1
+    (drawing-none (event.GiveUp c.args.number) before (ap operation_fault (operation-of c.args.self.now before stands c.args.number (omega (arith, c.if-number-eq0.false)) within).there) refl)
+
+pub returns-in_err-told_since-clause-faults : goal.returns-in_err-told_since-clause-faults
+returns-in_err-told_since-clause-faults c before stands =
+    let within : c.args.number ≤ length c.args.self.now.operations = omega (arith, c.if-number-started.false, c.started.ensures, ap (λ (model : WorldModel). length model.operations) c.self.view_is) in
+    wanted (event.GiveUp c.args.number) before c.args.self.now _ c.from_residual-in_err-told_since.result c.from_residual-in_err-told_since.ensures.1
+    (drawing-none (event.GiveUp c.args.number) before (ap operation_fault (operation-of c.args.self.now before stands c.args.number (omega (arith, c.if-number-eq0.false)) within).there) refl)

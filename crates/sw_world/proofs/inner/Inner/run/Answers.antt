@@ -1,4 +1,4 @@
-use Rattle.std.proofs.Common.{◌≡◌, ◌≤◌, ◌↔◌, ℕ, List, [], length, slice_get, Some, sym, ap, subst, ◌∙◌}
+use Rattle.std.proofs.Common.{◌≡◌, ◌≤◌, ◌↔◌, ℕ, List, length, slice_get, Some, sym, ap, subst, ◌∙◌}
 use Rattle.std.proofs.lemmas.Result.{err_from_is_err_and}
 use Rattle.sw_core.specs.Event as core
 use Rattle.sw_script.specs.declared.event.Event.TheVariants as event
@@ -8,7 +8,8 @@ use Rattle.sw_exchange.specs.declared.letter.Letter.{Letter}
 use Rattle.sw_world.specs.Leading.{DoesIt, LeadsByOne}
 use Rattle.sw_world.specs.Standing.{WorldModel}
 use Rattle.sw_world.specs.Unfolding.{job_of}
-use Rattle.sw_world.proofs.StartLines.{not-run, own-letters, run-does}
+use Rattle.sw_world.proofs.StartLines.{not-run, own-letters, run-does, start-may}
+use Rattle.sw_world.proofs.Wants.{wanted}
 use Rattle.sw_world.proofs.inner.Inner.run.Goals as goal
 
 pub returns-in_err-number-clause-faults : goal.returns-in_err-number-clause-faults
@@ -38,3 +39,8 @@ returns-clause-does c before stands =
     let leads = subst (λ (none : List EndLine). LeadsByOne (core.Start (job_of c.args.job.now)) before middle none first) c.new-ends.ensures.items (c.in_ok-number.ensures.leads before stands) in
     subst (λ (one : Told). DoesIt (event.Run c.args.job.now) before one new) (sym c.ends_told.ensures)
     (run-does c.args.self.now before stands number c.in_ok-number.ensures.number.0 c.args.job.now middle new first ends leads (c.in_ok-run_out.ensures.leads leads.after leads.stands))
+
+pub returns-in_err-run_out-clause-faults : goal.returns-in_err-run_out-clause-faults
+returns-in_err-run_out-clause-faults c before stands =
+    wanted (event.Run c.args.job.now) before c.args.self.now _ c.from_residual-in_err-run_out.result c.from_residual-in_err-run_out.ensures.1
+    (start-may before c.args.job.now c.begin.new.self _ _ (c.in_ok-number.ensures.leads before stands))

@@ -1,4 +1,4 @@
-use Rattle.std.proofs.Common.{◌≡◌, ℕ, sym, ap, subst, ◌∙◌}
+use Rattle.std.proofs.Common.{◌≡◌, ℕ, refl, sym, ap, subst, ◌∙◌}
 use Rattle.sw_hashpath.specs.Place.{IsPlace}
 use Rattle.sw_ring.specs.Cluster.{ClusterModel, place_of_name}
 use Rattle.sw_script.specs.declared.event.Event.TheVariants as event
@@ -8,6 +8,7 @@ use Rattle.sw_world.specs.Standing.{StandsFor, WorldModel}
 use Rattle.sw_world.specs.WorldInside.{inner_seen}
 use Rattle.sw_world.proofs.DeviceEvents.{member-of}
 use Rattle.sw_world.proofs.Showing.{node-there, readable, shows-does}
+use Rattle.sw_world.proofs.Wants.{drawing-none, known-device, wanted}
 use Rattle.sw_world.proofs.inner.Inner.show.Goals as goal
 
 pub shown-requires : goal.shown-requires
@@ -34,3 +35,13 @@ returns-clause-does c before stands =
     subst (DoesIt (event.Show c.args.number name) before told) c.self.view_is
     (subst (λ (one : ℕ). DoesIt (event.Show one name) before told rest) c.in_ok-device.ensures.0
     (shows-does rest before seen device member node.0 node.1 c.unwrap-disk.result.now node.2 place name is_place told (c.from.ensures ∙ c.new.ensures.items) (c.from-2.ensures ∙ c.new-2.ensures.items) c.in_ok-shown.ensures))
+
+pub returns-in_err-place-clause-faults : goal.returns-in_err-place-clause-faults
+returns-in_err-place-clause-faults c before stands =
+    wanted (event.Show c.args.number c.args.name.now) before c.args.self.now _ c.from_residual-in_err-place.result c.from_residual-in_err-place.ensures.1
+    (drawing-none (event.Show c.args.number c.args.name.now) before (known-device c.args.self.now before stands c.args.number c.in_ok-device.ensures.1) refl)
+
+pub returns-in_err-shown-clause-faults : goal.returns-in_err-shown-clause-faults
+returns-in_err-shown-clause-faults c before stands =
+    wanted (event.Show c.args.number c.args.name.now) before c.args.self.now _ c.from_residual-in_err-shown.result c.from_residual-in_err-shown.ensures.1
+    (drawing-none (event.Show c.args.number c.args.name.now) before (known-device c.args.self.now before stands c.args.number c.in_ok-device.ensures.1) refl)

@@ -1,4 +1,4 @@
-use Rattle.std.proofs.Common.{◌≡◌, ℕ, suc, List, [], ◌∷◌, drop, length, sym, ap, subst, ◌∙◌}
+use Rattle.std.proofs.Common.{◌≡◌, suc, List, [], ◌∷◌, drop, length, sym, ap, subst, ◌∙◌}
 use Rattle.sw_core.specs.Event as core
 use Rattle.sw_script.specs.declared.event.Event.TheVariants as event
 use Rattle.sw_told.specs.declared.end.EndLine.{EndLine}
@@ -9,7 +9,8 @@ use Rattle.sw_exchange.specs.declared.letter.Letter.{Letter}
 use Rattle.sw_world.specs.Leading.{DoesIt, LeadsByOne}
 use Rattle.sw_world.specs.Standing.{WorldModel}
 use Rattle.sw_world.specs.Unfolding.{job_of}
-use Rattle.sw_world.proofs.StartLines.{start-does}
+use Rattle.sw_world.proofs.StartLines.{start-does, start-may}
+use Rattle.sw_world.proofs.Wants.{wanted}
 use Rattle.sw_world.proofs.inner.Inner.start.Goals as goal
 
 pub returns-clause-does : goal.returns-clause-does
@@ -22,3 +23,8 @@ returns-clause-does c before stands =
     subst (λ (one : Told). DoesIt (event.Start c.args.job.now) before one new)
     (sym (c.in_ok-told_since.ensures ∙ ap (λ (letters : List Letter). record { sent = told.Started number ∷ lines_from (suc (length letters)) (drop (length letters) new.letters); ends = ends; shown = [] }) same))
     (start-does c.args.self.now before stands number c.in_ok-number.ensures.number.0 c.args.job.now new ends leads)
+
+pub returns-in_err-told_since-clause-faults : goal.returns-in_err-told_since-clause-faults
+returns-in_err-told_since-clause-faults c before stands =
+    wanted (event.Start c.args.job.now) before c.args.self.now _ c.from_residual-in_err-told_since.result c.from_residual-in_err-told_since.ensures.1
+    (start-may before c.args.job.now c.begin.new.self _ _ (c.in_ok-number.ensures.leads before stands))

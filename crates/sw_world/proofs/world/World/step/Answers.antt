@@ -1,4 +1,4 @@
-use Rattle.std.proofs.Common.{◌≡◌, false, sym, ap, ◌∙◌}
+use Rattle.std.proofs.Common.{◌≡◌, true≢false, false, sym, ap, ◌∙◌}
 use Rattle.sw_world.specs.Standing.{WorldModel}
 use Rattle.sw_world.proofs.world.World.step.Goals as goal
 
@@ -8,3 +8,7 @@ invariant_of-self c goes =
     let stands = c.self.invariant running in
     let does = c.in-Ok.ensures.does stands.0 stands.1 in
     (does.after, does.stands)
+
+-- a world that wants memory stands for none
+pub returns-then-is_wanting-clause-faults : goal.returns-then-is_wanting-clause-faults
+returns-then-is_wanting-clause-faults c before stands = absurd (true≢false (c.if-is_wanting.ensures ∙ stands.goes_on))
