@@ -52,6 +52,7 @@ pub fn read_body<N: Conn>(
 ) -> BodyNext
     ensures reads { ReadsBody framing (N.remaining conn.old) (N.remaining conn.new) carry.old carry.new result }
     ensures written { N.written conn.new ≡ N.written conn.old }
+    ensures closed { N.closed conn.new ≡ N.closed conn.old }
     ensures counts { CountsFault (result ≡ BodyNext.ReadFault) (N.faults conn.old) (N.faults conn.new) }
 {
     match framing {
@@ -80,6 +81,7 @@ fn read_sized<N: Conn>(
 ) -> Result<BodyNext, ReadError>
     ensures reads { ReadsBody (Framing.Length size) (N.remaining conn.old) (N.remaining conn.new) carry.old carry.new (next_of result) }
     ensures written { N.written conn.new ≡ N.written conn.old }
+    ensures closed { N.closed conn.new ≡ N.closed conn.old }
     ensures counts { CountsFault (next_of result ≡ BodyNext.ReadFault) (N.faults conn.old) (N.faults conn.new) }
 {
     if size > LIMIT {
@@ -106,6 +108,7 @@ fn fill<N: Conn>(
     ensures cut { IfOk result (λ is_full. is_full ≡ false → (length carry.new < size) × IsAtEnd (N.remaining conn.new)) }
     ensures failed { IsErrOf result ReadError.Failed → length carry.new < size }
     ensures written { N.written conn.new ≡ N.written conn.old }
+    ensures closed { N.closed conn.new ≡ N.closed conn.old }
     ensures counts { CountsFault (IsErrOf result ReadError.Failed) (N.faults conn.old) (N.faults conn.new) }
 {
     'filling: while carry.as_slice().len() < size {
@@ -124,6 +127,7 @@ fn read_chunked<N: Conn>(
 ) -> Result<BodyNext, ReadError>
     ensures reads { ReadsBody Framing.Chunked (N.remaining conn.old) (N.remaining conn.new) carry.old carry.new (next_of result) }
     ensures written { N.written conn.new ≡ N.written conn.old }
+    ensures closed { N.closed conn.new ≡ N.closed conn.old }
     ensures counts { CountsFault (next_of result ≡ BodyNext.ReadFault) (N.faults conn.old) (N.faults conn.new) }
 {
     let mut body = Bytes::new(alloc);
@@ -151,6 +155,7 @@ fn take_chunks<N: Conn>(
     ensures end { IfOk result (λ stop. stop ≡ Stop.Open → IsAtEnd (N.remaining conn.new)) }
     ensures failed { IsErrOf result ReadError.Failed → Stands (length body.new) carry.new Undecided }
     ensures written { N.written conn.new ≡ N.written conn.old }
+    ensures closed { N.closed conn.new ≡ N.closed conn.old }
     ensures counts { CountsFault (IsErrOf result ReadError.Failed) (N.faults conn.old) (N.faults conn.new) }
 {
     'chunks: loop {
@@ -177,6 +182,7 @@ fn next_step<N: Conn>(
     ensures end { IfOk result (λ step. step ≡ Step.Over Stop.Open → IsAtEnd (N.remaining conn.new)) }
     ensures failed { IsErrOf result ReadError.Failed → Stands so_far carry.new Undecided }
     ensures written { N.written conn.new ≡ N.written conn.old }
+    ensures closed { N.closed conn.new ≡ N.closed conn.old }
     ensures counts { CountsFault (IsErrOf result ReadError.Failed) (N.faults conn.old) (N.faults conn.new) }
 {
     'reading: loop {

@@ -1,7 +1,7 @@
 //! Bodies, however their bytes are cut.
 
 use super::*;
-use std::alloc::Global;
+use crate::head_tests::filled;
 use std::test::Fail;
 use sw_io::MemConn;
 
@@ -14,33 +14,6 @@ fn word(next: &BodyNext) -> &'static str {
         BodyNext::ReadFault => "read fault",
         BodyNext::NoMemory => "no memory",
     }
-}
-
-// A chunk line of size 1, of so many bytes.
-fn line_of(alloc: Global, length: usize) -> Result<Vec<u8>, Fail> {
-    let mut text = b"1;".to_vec(alloc)?;
-    while text.len() + 2 < length {
-        text.push(b'x')?;
-    }
-    text.extend_from_slice(b"\r\n")?;
-    Ok(text)
-}
-
-// The same with a chunk's data and its end, the last chunk and an empty trailer section behind it.
-fn chunked_by(alloc: Global, length: usize) -> Result<Vec<u8>, Fail> {
-    let mut text = line_of(alloc, length)?;
-    text.extend_from_slice(b"a\r\n0\r\n\r\n")?;
-    Ok(text)
-}
-
-// The last chunk and a trailer section of so many bytes.
-fn trailer_of(alloc: Global, length: usize) -> Result<Vec<u8>, Fail> {
-    let mut text = b"0\r\nA: ".to_vec(alloc)?;
-    while text.len() < length - 1 {
-        text.push(b'x')?;
-    }
-    text.extend_from_slice(b"\r\n\r\n")?;
-    Ok(text)
 }
 
 #[test]
@@ -162,11 +135,13 @@ fn what_comes_of_bytes(rt: HostRuntime) -> Result<(), Fail> {
 #[test]
 fn lines_and_sections_at_their_limit(rt: HostRuntime) -> Result<(), Fail> {
     let alloc = rt.alloc();
+    // A chunk line has 4 bytes and those of its extension, a trailer section 7 and those of its value.
+    let chunk = b"\r\na\r\n0\r\n\r\n";
     let cases = [
-        (chunked_by(alloc, 8192)?, "body"),
-        (chunked_by(alloc, 8193)?, "bad chunk"),
-        (trailer_of(alloc, 8192)?, "body"),
-        (trailer_of(alloc, 8193)?, "bad chunk"),
+        (filled(alloc, b"1;", 8188, chunk)?, "body"),
+        (filled(alloc, b"1;", 8189, chunk)?, "bad chunk"),
+        (filled(alloc, b"0\r\nA: ", 8185, b"\r\n\r\n")?, "body"),
+        (filled(alloc, b"0\r\nA: ", 8186, b"\r\n\r\n")?, "bad chunk"),
         (vec![in alloc; b'0'; 8191]?, "cut"),
         (vec![in alloc; b'0'; 8192]?, "bad chunk"),
     ];

@@ -68,6 +68,7 @@ impl Carry {
         ensures read { IfOk result (IsRead (N.remaining conn.old) (N.remaining conn.new) self.old self.new) }
         ensures kept { OnErr result (Keeps (N.remaining conn.old) (N.remaining conn.new) × (self.new ≡ self.old)) }
         ensures written { N.written conn.new ≡ N.written conn.old }
+        ensures closed { N.closed conn.new ≡ N.closed conn.old }
         ensures counts { CountsFault (IsErrOf result ReadError.Failed) (N.faults conn.old) (N.faults conn.new) }
     {
         make_room(alloc, &mut self.room)?;

@@ -38,6 +38,7 @@ pub enum HeadNext {
 pub fn next_head<N: Conn>(alloc: Global, conn: &mut N, carry: &mut Carry) -> HeadNext
     ensures reads { ReadsHead (N.remaining conn.old) (N.remaining conn.new) carry.old carry.new result }
     ensures written { N.written conn.new ≡ N.written conn.old }
+    ensures closed { N.closed conn.new ≡ N.closed conn.old }
     ensures counts { CountsFault (result ≡ HeadNext.ReadFault) (N.faults conn.old) (N.faults conn.new) }
 {
     match find_head(alloc, conn, carry) {
@@ -70,6 +71,7 @@ fn find_head<N: Conn>(alloc: Global, conn: &mut N, carry: &mut Carry) -> Result<
     ensures end { IfOk result (λ ending. ending ≡ Ending.Unended → IsAtEnd (N.remaining conn.new)) }
     ensures failed { IsErrOf result ReadError.Failed → IsUnended IsWholeHead carry.new }
     ensures written { N.written conn.new ≡ N.written conn.old }
+    ensures closed { N.closed conn.new ≡ N.closed conn.old }
     ensures counts { CountsFault (IsErrOf result ReadError.Failed) (N.faults conn.old) (N.faults conn.new) }
 {
     'reading: loop {

@@ -17,13 +17,17 @@ fn word(next: &HeadNext) -> &'static str {
     }
 }
 
-// A head of so many bytes.
-fn head_of(alloc: Global, length: usize) -> Result<Vec<u8>, Fail> {
-    let mut text = b"GET / HTTP/1.1\r\nA: ".to_vec(alloc)?;
-    while text.len() + 4 < length {
-        text.push(b'a')?;
-    }
-    text.extend_from_slice(b"\r\n\r\n")?;
+// Some bytes, so many more, and some behind them.
+pub(crate) fn filled(
+    alloc: Global,
+    before: &[u8],
+    count: usize,
+    after: &[u8],
+) -> Result<Vec<u8>, Fail> {
+    let mut text = before.to_vec(alloc)?;
+    let filling = vec![in alloc; b'x'; count]?;
+    text.extend_from_slice(&filling)?;
+    text.extend_from_slice(after)?;
     Ok(text)
 }
 
@@ -57,6 +61,8 @@ fn a_head_cut_in_every_place(rt: HostRuntime) -> Result<(), Fail> {
 #[test]
 fn what_comes_of_bytes(rt: HostRuntime) -> Result<(), Fail> {
     let alloc = rt.alloc();
+    // 23 bytes and those of the value.
+    let start = b"GET / HTTP/1.1\r\nA: ".as_slice();
     let cases = [
         (b"".to_vec(alloc)?, "end"),
         (b"\r\n\n\r".to_vec(alloc)?, "end"),
@@ -71,8 +77,8 @@ fn what_comes_of_bytes(rt: HostRuntime) -> Result<(), Fail> {
         ),
         (vec![in alloc; b'\n'; 8191]?, "end"),
         (vec![in alloc; b'\n'; 8192]?, "head too large"),
-        (head_of(alloc, 8192)?, "head"),
-        (head_of(alloc, 8193)?, "head too large"),
+        (filled(alloc, start, 8169, b"\r\n\r\n")?, "head"),
+        (filled(alloc, start, 8170, b"\r\n\r\n")?, "head too large"),
     ];
     for (bytes, want) in &cases {
         for most in [97, 4096] {

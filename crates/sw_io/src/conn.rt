@@ -1,6 +1,6 @@
 //! Connections.
 
-ghost use Rattle.std.specs.Prelude.{◌≡◌, ℕ, ◌<◌, ◌≤◌, List, Option, IfOk, length};
+ghost use Rattle.std.specs.Prelude.{◌≡◌, ℕ, ◌<◌, ◌≤◌, Bool, true, List, Option, IfOk, length};
 ghost use Rattle.std.specs.Io.KnownBytes.{ReadConsumes, WriteAppends};
 ghost use Rattle.sw_words.specs.Counts.{CountsFailure, FailsByCount};
 
@@ -17,6 +17,9 @@ pub trait Conn {
     /// How often reading or writing has failed.
     ghost faults: { Self → ℕ };
 
+    /// Whether it was ended for the peer.
+    ghost closed: { Self → Bool };
+
     /// Reads into the front of `room`, and answers how many bytes came. None come only where the peer sends no more, and
     /// none are lost at `Err`.
     fn read(&mut self, room: &mut [u8]) -> Result<usize, ReadFailed>
@@ -24,6 +27,7 @@ pub trait Conn {
         ensures count { IfOk result (λ n. n ≤ length room.new) }
         ensures bytes { ReadConsumes (remaining self.old) (remaining self.new) result room.new }
         ensures written { written self.new ≡ written self.old }
+        ensures closed { closed self.new ≡ closed self.old }
         ensures cause { FailsByCount (faults self.old) (faults self.new) result }
         ensures counted { CountsFailure (faults self.old) (faults self.new) result };
 
@@ -33,6 +37,7 @@ pub trait Conn {
         ensures count { IfOk result (λ n. (0 < n) × (n ≤ length piece.now)) }
         ensures bytes { WriteAppends (written self.old) (written self.new) result piece.now }
         ensures remaining { remaining self.new ≡ remaining self.old }
+        ensures closed { closed self.new ≡ closed self.old }
         ensures cause { FailsByCount (faults self.old) (faults self.new) result }
         ensures counted { CountsFailure (faults self.old) (faults self.new) result };
 
@@ -40,5 +45,6 @@ pub trait Conn {
     fn close(&mut self)
         ensures remaining { remaining self.new ≡ remaining self.old }
         ensures written { written self.new ≡ written self.old }
-        ensures faults { faults self.new ≡ faults self.old };
+        ensures faults { faults self.new ≡ faults self.old }
+        ensures closed { closed self.new ≡ true };
 }

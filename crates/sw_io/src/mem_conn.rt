@@ -88,11 +88,15 @@ impl Conn for MemConn {
 
     ghost faults = { λ c. c.faults };
 
+    ghost closed = { λ c. c.is_closed };
+
     fn read(&mut self, room: &mut [u8]) -> Result<usize, ReadFailed>
         requires { 0 < length room.old }
         ensures count { IfOk result (λ n. n ≡ min self.old.most (min (length self.old.remaining) (length room.new))) }
         ensures bytes { ReadConsumes (Some self.old.remaining) (Some self.new.remaining) result room.new }
         ensures written { Some self.new.written ≡ Some self.old.written }
+        ensures closed { self.new.is_closed ≡ self.old.is_closed }
+        ensures most { self.new.most ≡ self.old.most }
         ensures cause { FailsByCount self.old.faults self.new.faults result }
         ensures counted { CountsFailure self.old.faults self.new.faults result }
         ensures fails { IsErr result ↔ (self.old.calls_left ≡ Some 0) }
@@ -110,6 +114,8 @@ impl Conn for MemConn {
         ensures count { IfOk result (λ n. n ≡ length piece.now) }
         ensures bytes { WriteAppends (Some self.old.written) (Some self.new.written) result piece.now }
         ensures remaining { Some self.new.remaining ≡ Some self.old.remaining }
+        ensures closed { self.new.is_closed ≡ self.old.is_closed }
+        ensures most { self.new.most ≡ self.old.most }
         ensures cause { FailsByCount self.old.faults self.new.faults result }
         ensures counted { CountsFailure self.old.faults self.new.faults result }
         ensures fails { self.old.calls_left ≡ Some 0 → IsErr result }
@@ -130,6 +136,7 @@ impl Conn for MemConn {
         ensures written { Some self.new.written ≡ Some self.old.written }
         ensures faults { self.new.faults ≡ self.old.faults }
         ensures closed { self.new.is_closed ≡ true }
+        ensures same { self.new ≡ record self.old { is_closed = true } }
     {
         self.is_closed = true;
     }

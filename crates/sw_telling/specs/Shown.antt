@@ -18,13 +18,15 @@ pub record IsNew (cluster : ClusterModel) (clock : ℕ) (link : TellingModel) : 
   pub up : link.nodes.down ≡ []
   pub empty : (device : ℕ) (name : List ℕ) → devices_of link.nodes.nodes device name ≡ []
   pub none_lost : link.nodes.lost ≡ 0
+  pub goes_on : link.nodes.is_wanting ≡ false
   pub clock_is : link.clock ≡ clock
   pub none_drawn : link.last ≡ None
   pub none_refused : link.refused ≡ 0
   pub tells : learnt_by link ≡ Some nothing_known
   pub known_is : link.known ≡ nothing_known
 
--- A put ran to its end over a new link, and then a get; and the link tells still.
+-- A put ran to its end over a new link, and then a get. No node wanted memory, so that each reply is that of the step of a node, and the
+-- link tells still.
 pub record PutAndGot (cluster : ClusterModel) (clock : ℕ) (name : NameModel) (object : ObjectModel) (created : PutEnd) (found : GetEnd) : Type 0 where
   pub first : TellingModel
   pub between : TellingModel
@@ -33,6 +35,7 @@ pub record PutAndGot (cluster : ClusterModel) (clock : ℕ) (name : NameModel) (
   pub puts : PutsOver Draws Calls losses learnt_by cluster name object first (Ok created) between
   pub gets : GetsOver Calls losses learnt_by (record { cluster = cluster; name = name }) between (Ok found) last
   pub speaks : last.is_silent ≡ false
+  pub goes_on : last.nodes.is_wanting ≡ false
   pub tells : learnt_by last ≡ Some last.known
 
 -- It is the object of the put, at its stamp, from k sources of different indices.

@@ -15,7 +15,8 @@ use sw_ring::Cluster;
 use sw_types::{Name, NoMemory, Object, Stamp};
 
 /// The nodes of a cluster, as a link that draws stamps and tells what it has learnt: each put, each delete and each reply since its
-/// beginning. Where memory is wanted, in a node or for a copy of what is learnt, it falls silent.
+/// beginning. Where memory is wanted, in a node or for a copy of what is learnt, it falls silent; that it speaks where memory is there is
+/// tested.
 #[derive(Drop)]
 pub struct Telling<'a> {
     alloc: Global,
@@ -57,6 +58,7 @@ impl<'a> Telling<'a> {
     pub fn is_silent(&self) -> bool
         ensures silent { result ≡ self.now.is_silent }
         ensures tells { self.now.is_silent ≡ false → learnt_by self.now ≡ Some self.now.known }
+        ensures goes_on { self.now.is_silent ≡ false → self.now.nodes.is_wanting ≡ false }
     {
         self.is_silent
     }

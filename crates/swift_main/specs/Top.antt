@@ -14,7 +14,7 @@ pub record IsInput (old new : Option (List ℕ)) (input : List ℕ) : Type 0 whe
   pub within : length input ≤ greatest_input + 1
   pub whole : length input ≤ greatest_input → IsAtEnd new
 
--- these bytes were read where the command are the command, and nothing where they aren't
+-- these bytes were read where there is a command, and nothing where there is none
 pub record IsRead (command : Option Command) (old new : Option (List ℕ)) (input : List ℕ) : Type 0 where
   pub some : (asked : Command) → command ≡ Some asked → IsInput old new input
   pub none : command ≡ None → (input ≡ []) × Keeps old new

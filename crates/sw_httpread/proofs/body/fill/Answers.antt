@@ -9,5 +9,6 @@ filling-preserved g c =
     record {
       grew = grew_more _ _ _ _ _ _ _ _ c.filling.invariant.grew short more.read;
       written = more.written ∙ c.filling.invariant.written;
+      closed = more.closed ∙ c.filling.invariant.closed;
       quiet = omega (arith, more.counts.quiet (λ failed. cc));
     }

@@ -15,6 +15,7 @@ reading-preserved g c =
     record {
       grew = grew_more _ _ _ _ _ _ _ _ c.reading.invariant.grew open_so_far more.read;
       written = more.written ∙ c.reading.invariant.written;
+      closed = more.closed ∙ c.reading.invariant.closed;
       quiet = omega (arith, more.counts.quiet (λ failed. cc));
     }
 

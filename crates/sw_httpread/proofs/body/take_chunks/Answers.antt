@@ -6,6 +6,7 @@ pub chunks-init : goal.chunks-init
 chunks-init g c = record {
   took = rw c.requires (took_start _ _);
   written = refl;
+  closed = refl;
   quiet = refl;
 }
 
@@ -34,6 +35,7 @@ chunks-preserved g c =
     record {
       took = rw (body_is, c.use_front.ensures) (took_chunk _ _ _ _ _ _ _ before (stands_at _ _ _ _ c.len.ensures found.1));
       written = c.in_ok-start.ensures.written ∙ c.chunks.invariant.written;
+      closed = c.in_ok-start.ensures.closed ∙ c.chunks.invariant.closed;
       quiet = omega (arith, c.in_ok-start.ensures.counts.quiet (λ failed. cc));
     }
 

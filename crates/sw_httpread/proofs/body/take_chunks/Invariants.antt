@@ -7,6 +7,7 @@ abbrev pub invariant-chunks : goal.invariant-chunks
 invariant-chunks g l = record {
   took : TookChunks (g.N.Conn.remaining l.fn.conn) (g.N.Conn.remaining l.conn) l.fn.carry l.carry l.body;
   written : g.N.Conn.written l.conn ≡ g.N.Conn.written l.fn.conn;
+  closed : g.N.Conn.closed l.conn ≡ g.N.Conn.closed l.fn.conn;
   quiet : g.N.Conn.faults l.conn ≡ g.N.Conn.faults l.fn.conn;
 }
 

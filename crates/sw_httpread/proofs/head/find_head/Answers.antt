@@ -8,5 +8,6 @@ reading-preserved g c =
     record {
       grew = grew_more _ _ _ _ _ _ _ _ c.reading.invariant.grew (rw c.as_slice.ensures at c.in-Unended.ensures) more.read;
       written = more.written ∙ c.reading.invariant.written;
+      closed = more.closed ∙ c.reading.invariant.closed;
       quiet = omega (arith, more.counts.quiet (λ failed. cc));
     }

@@ -8,6 +8,7 @@ abbrev pub invariant-reading : goal.invariant-reading
 invariant-reading g l = record {
   grew : Grew (IsUnended IsWholeHead) (g.N.Conn.remaining l.fn.conn) (g.N.Conn.remaining l.conn) l.fn.carry l.carry;
   written : g.N.Conn.written l.conn ≡ g.N.Conn.written l.fn.conn;
+  closed : g.N.Conn.closed l.conn ≡ g.N.Conn.closed l.fn.conn;
   quiet : g.N.Conn.faults l.conn ≡ g.N.Conn.faults l.fn.conn;
 }
 

@@ -14,6 +14,7 @@ returns-clause-found c =
       puts = c.in_ok-created.ensures.puts;
       gets = c.in_ok-found.ensures.gets;
       speaks = speaks;
+      goes_on = c.is_silent.ensures.goes_on speaks;
       tells = c.is_silent.ensures.tells speaks;
     } in
     shows_it c.args.cluster.now c.args.clock c.args.name.now c.args.object.now c.in_ok-created.created c.in_ok-found.found ran
