@@ -17,17 +17,18 @@ fn word(next: &HeadNext) -> &'static str {
     }
 }
 
-// Some bytes, so many more, and some behind them.
+// A text, so many bytes of a kind, and a text.
 pub(crate) fn filled(
     alloc: Global,
-    before: &[u8],
+    before: &str,
+    byte: u8,
     count: usize,
-    after: &[u8],
+    after: &str,
 ) -> Result<Vec<u8>, Fail> {
-    let mut text = before.to_vec(alloc)?;
-    let filling = vec![in alloc; b'x'; count]?;
+    let mut text = before.as_bytes().to_vec(alloc)?;
+    let filling = vec![in alloc; byte; count]?;
     text.extend_from_slice(&filling)?;
-    text.extend_from_slice(after)?;
+    text.extend_from_slice(after.as_bytes())?;
     Ok(text)
 }
 
@@ -35,9 +36,9 @@ pub(crate) fn filled(
 fn a_head_cut_in_every_place(rt: HostRuntime) -> Result<(), Fail> {
     let alloc = rt.alloc();
     let text = b"\r\n\nPUT /v1/a/c/o?x HTTP/1.0\r\nHost: \t a b \nX:\r\n\r\nabc";
-    for most in 1..=text.len() {
+    for place in 0..text.len() {
         let mut conn = MemConn::new(alloc, text.to_vec(alloc)?);
-        conn.give_at_most(most);
+        conn.give_at_most(place + 1);
         let mut carry = Carry::new(alloc);
         let HeadNext::Head(head) = next_head(alloc, &mut conn, &mut carry) else {
             return Err("no head".into());
@@ -61,32 +62,48 @@ fn a_head_cut_in_every_place(rt: HostRuntime) -> Result<(), Fail> {
 #[test]
 fn what_comes_of_bytes(rt: HostRuntime) -> Result<(), Fail> {
     let alloc = rt.alloc();
-    // 23 bytes and those of the value.
-    let start = b"GET / HTTP/1.1\r\nA: ".as_slice();
     let cases = [
-        (b"".to_vec(alloc)?, "end"),
-        (b"\r\n\n\r".to_vec(alloc)?, "end"),
-        (b"\r\r\n\r\n".to_vec(alloc)?, "bad head"),
-        (b"GET / HTTP/1.1\n\n".to_vec(alloc)?, "head"),
-        (b"GET / HTTP/1.1\r\nA: b\r\n".to_vec(alloc)?, "cut"),
-        (b"GET /\r\n".to_vec(alloc)?, "cut"),
-        (b"GET /\r\n\r\n".to_vec(alloc)?, "bad head"),
-        (
-            b"GET / HTTP/1.1\r\nA : b\r\n\r\n".to_vec(alloc)?,
-            "bad head",
-        ),
-        (vec![in alloc; b'\n'; 8191]?, "end"),
-        (vec![in alloc; b'\n'; 8192]?, "head too large"),
-        (filled(alloc, start, 8169, b"\r\n\r\n")?, "head"),
-        (filled(alloc, start, 8170, b"\r\n\r\n")?, "head too large"),
+        ("", "end"),
+        ("\r\n\n\r", "end"),
+        ("\r\r\n\r\n", "bad head"),
+        ("GET / HTTP/1.1\n\n", "head"),
+        ("GET / HTTP/1.1\r\nA: b\r\n", "cut"),
+        ("GET /\r\n", "cut"),
+        ("GET /\r\n\r\n", "bad head"),
+        ("GET / HTTP/1.1\r\nA : b\r\n\r\n", "bad head"),
     ];
-    for (bytes, want) in &cases {
-        for most in [97, 4096] {
-            let mut conn = MemConn::new(alloc, bytes.clone()?);
-            conn.give_at_most(most);
-            let mut carry = Carry::new(alloc);
-            assert_eq!(rt; word(&next_head(alloc, &mut conn, &mut carry)), *want);
-        }
+    for (text, want) in cases {
+        let mut conn = MemConn::new(alloc, text.as_bytes().to_vec(alloc)?);
+        conn.give_at_most(5);
+        let mut carry = Carry::new(alloc);
+        let next = next_head(alloc, &mut conn, &mut carry);
+        assert_eq!(rt; word(&next), want, "of {text:?}");
+    }
+    Ok(())
+}
+
+#[test]
+fn heads_at_their_limit(rt: HostRuntime) -> Result<(), Fail> {
+    let alloc = rt.alloc();
+    // A head of 23 bytes and those of a value, or empty lines alone.
+    let cases = [
+        ("GET / HTTP/1.1\r\nA: ", b'x', 8169, "\r\n\r\n", "head"),
+        (
+            "GET / HTTP/1.1\r\nA: ",
+            b'x',
+            8170,
+            "\r\n\r\n",
+            "head too large",
+        ),
+        ("", b'\n', 8191, "", "end"),
+        ("", b'\n', 8192, "", "head too large"),
+    ];
+    for (before, byte, count, after, want) in cases {
+        let mut conn = MemConn::new(alloc, filled(alloc, before, byte, count, after)?);
+        conn.give_at_most(97);
+        let mut carry = Carry::new(alloc);
+        let next = next_head(alloc, &mut conn, &mut carry);
+        assert_eq!(rt; word(&next), want, "with {count} bytes");
     }
     Ok(())
 }
