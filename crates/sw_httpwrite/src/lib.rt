@@ -1,0 +1,13 @@
+//! Responses are written to a connection.
+//!
+//! An [`Answer`] is what a response says. [`write_response`] writes a response, and [`write_continue`] the interim one that
+//! some clients wait for.
+#![tactic(auto)]
+
+mod answer;
+mod head;
+mod write;
+
+pub use crate::answer::Answer;
+pub use crate::head::lines_law;
+pub use crate::write::{WriteEnd, write_continue, write_response};
