@@ -20,7 +20,7 @@ struct Obliging {
 }
 
 impl Link for Obliging {
-    ghost use Rattle.std.specs.Prelude.{None, ⊤, ⊥};
+    ghost use Rattle.std.specs.Prelude.{None, ⊤};
 
     ghost cluster = { λ link. None };
 

@@ -9,7 +9,8 @@ AppendsProperFront-both : (a b c : Option (List ℕ)) (first second : List ℕ) 
 AppendsProperFront-both a b c first second before part = (
   length first + part.0,
   subst (Appends a c) (sym (take-append-add first second part.0)) (Appends-trans a b c first (take part.0 second) before part.1),
-  omega (arith, length-append first second, part.2))
+  omega (arith, length-append first second, part.2),
+)
 
 -- the first were written, and then the second, but these maybe not whole
 pub AppendsProperFront-after : {X Y : Type 0} (result : Result X Y) (a b c : Option (List ℕ)) (first second : List ℕ) → Appends a b first

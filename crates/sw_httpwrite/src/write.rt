@@ -52,6 +52,7 @@ pub fn write_response<N: Conn>(
     ensures front { IsErrOf result WriteEnd.WriteFault → AppendsProperFront (N.written conn.old) (N.written conn.new) (response_bytes response.now) }
     ensures untouched { IsErrOf result WriteEnd.NoMemory → conn.new ≡ conn.old }
     ensures remaining { N.remaining conn.new ≡ N.remaining conn.old }
+    ensures closed { N.closed conn.new ≡ N.closed conn.old }
 
     ensures never_falls { N.faults conn.old ≤ N.faults conn.new }
     ensures failed { IsErrOf result WriteEnd.WriteFault → Rose (N.faults conn.old) (N.faults conn.new) }
@@ -70,6 +71,7 @@ pub fn write_continue<N: Conn>(conn: &mut N) -> Result<(), WriteFailed>
     ensures whole { OnOk result (Appends (N.written conn.old) (N.written conn.new) continue_bytes) }
     ensures front { OnErr result (AppendsProperFront (N.written conn.old) (N.written conn.new) continue_bytes) }
     ensures remaining { N.remaining conn.new ≡ N.remaining conn.old }
+    ensures closed { N.closed conn.new ≡ N.closed conn.old }
     ensures cause { FailsByCount (N.faults conn.old) (N.faults conn.new) result }
     ensures counted { CountsFailure (N.faults conn.old) (N.faults conn.new) result }
 {
@@ -81,6 +83,7 @@ fn write_both<N: Conn>(conn: &mut N, first: &[u8], second: &[u8]) -> Result<(), 
     ensures whole { OnOk result (Appends (N.written conn.old) (N.written conn.new) (first.now ++ second.now)) }
     ensures front { OnErr result (AppendsProperFront (N.written conn.old) (N.written conn.new) (first.now ++ second.now)) }
     ensures remaining { N.remaining conn.new ≡ N.remaining conn.old }
+    ensures closed { N.closed conn.new ≡ N.closed conn.old }
     ensures cause { FailsByCount (N.faults conn.old) (N.faults conn.new) result }
     ensures counted { CountsFailure (N.faults conn.old) (N.faults conn.new) result }
 {
@@ -93,6 +96,7 @@ fn write_all<N: Conn>(conn: &mut N, bytes: &[u8]) -> Result<(), WriteFailed>
     ensures whole { OnOk result (Appends (N.written conn.old) (N.written conn.new) bytes.now) }
     ensures front { OnErr result (AppendsProperFront (N.written conn.old) (N.written conn.new) bytes.now) }
     ensures remaining { N.remaining conn.new ≡ N.remaining conn.old }
+    ensures closed { N.closed conn.new ≡ N.closed conn.old }
     ensures cause { FailsByCount (N.faults conn.old) (N.faults conn.new) result }
     ensures counted { CountsFailure (N.faults conn.old) (N.faults conn.new) result }
 {

@@ -8,6 +8,7 @@ pub loop-rest-preserved : goal.loop-rest-preserved
 loop-rest-preserved g c = record {
   part = rw take_rest (WrotePart-more _ _ _ _ _ _ c.loop-rest.invariant.part c.in_ok-count.ensures.bytes);
   remaining = search rules;
+  closed = search rules;
   quiet = search rules;
 }
 
