@@ -95,7 +95,7 @@ impl Gather {
         Ok(Bytes::from(segment))
     }
 
-    /// Adds the segment of so many bytes whose fragments were gathered. It takes no memory where there is room for k fragments.
+    /// Adds the segment of so many bytes whose fragments were gathered. At `Err` some of it may have been added.
     pub fn push_segment(&self, out: &mut Vec<u8>, segment_length: usize) -> Result<(), NoMemory>
         requires enough { length self.now.shares ≡ self.now.k }
         requires fits { fragment_width self.now.k segment_length ≡ self.now.width }

@@ -22,7 +22,7 @@ ghost use Rattle.sw_example.specs.Pair.{pair};
 /// first reply, which follows the k + m fragments.
 ///
 /// In a cluster of two devices, of which one is enough to read, there is an object that may be put and for whose archives both have room;
-/// and for each such there is a run in which its put is acknowledged with a commit at each, one of them loses its disk then, and a get
+/// and for each such there is a run in which its put is acknowledged with more than one commit, a device loses its disk then, and a get
 /// that starts later finds the object. So a put that was acknowledged and a get with a device out are no empty premises, nor are
 /// operations beside which nothing steps.
 pub fn example_law()

@@ -19,9 +19,9 @@ ghost use Rattle.sw_headline.specs.Invariant.{Invariant};
 /// message of the get, tells of nothing older; if besides at most q - k devices are so, it shows the put or something newer, or it was
 /// overtaken. After a delete was acknowledged with so many marks, with fewer devices so, it tells of nothing older than the delete. A get
 /// beside which nothing steps, and of which each device misses all questions or none, keeps at most one round as an event and is not
-/// overtaken. On devices that are all up and sure of their disks, with nothing else stepping and no message given up, operations end in
-/// full: a put is acknowledged with k + m commits where every disk has room, a delete with k + m marks, and a get ends by what the devices
-/// have.
+/// overtaken. On devices that are all up and sure of their disks, with nothing else stepping and no message given up, operations that
+/// are over ended in full: a put is acknowledged with k + m commits where every disk has room, a delete with k + m marks, and a get ends
+/// by what the devices have.
 pub fn headline_law()
     ensures invariant { (cluster : ClusterModel) (events : List Event) (world : World) → IsRun cluster events world → Invariant cluster world }
     ensures never_older { (cluster : ClusterModel) → NeverOlder cluster }
