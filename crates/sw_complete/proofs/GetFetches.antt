@@ -43,7 +43,7 @@ use Rattle.sw_complete.proofs.GetArchives.{IsOne, none_strays}
 use Rattle.sw_complete.proofs.GetClean.{IsAtTarget, clean-brought, none_before}
 use Rattle.sw_complete.proofs.GetGone.{none_gone}
 use Rattle.sw_complete.proofs.GetHanded.{AreClean, IsNoMiss, by_facts}
-use Rattle.sw_complete.proofs.GetReplies.{AreTrue, fetched_by, law}
+use Rattle.sw_complete.proofs.GetReplies.{AreTrue, fetched_by}
 use Rattle.sw_complete.proofs.GetThere.{get_of, one_there, put_there, reply_true, wanted_there}
 
 -- what a round knows once a source brought an archive
@@ -137,7 +137,7 @@ module _ (scene : Scene) (name : NameModel) (valid : IsBegun (get_of scene name)
             (omega (arith, few_before, AllZip-long (IsBrought get past from facts) facts.sources facts.archives keeps.brought)) strays
         not_spoilt why spoils =
             let wanted = wanted_there scene name sound own stamp index bytes of in
-            asked_or_spoil law (IsNamed name) policy stamp index bytes (put_fields policy stamp name object index) wanted.0 wanted.1 why spoils
+            asked_or_spoil (IsNamed name) policy stamp index bytes (put_fields policy stamp name object index) wanted.0 wanted.1 why spoils
 
         -- what it says is not a miss
         fragment_by : (what : Meaning) → SaysOf get facts.archives (message.Fetch other stamp index) (Some (reply.Fragment bytes)) what → AreClean scene name fetch_past (Hears fetch what ∷ turns)

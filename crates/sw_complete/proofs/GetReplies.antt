@@ -14,7 +14,6 @@ use Rattle.sw_hashdir.specs.Listing.{IsListingOf, ListingModel}
 use Rattle.sw_diskfile.proofs.Directories.{has_content}
 use Rattle.sw_archive.specs.Put.{put_archive, put_fields}
 use Rattle.sw_archive.proofs.Archives.{put_is_archive}
-use Rattle.sw_archive.proofs.Faults.{no_fault, one_fault}
 use Rattle.sw_archive.specs.Archive.{IsArchive}
 use Rattle.sw_ring.specs.Cluster.{ClusterModel}
 use Rattle.sw_message.specs.Learnt.{Booked, IsSoundBook}
@@ -28,7 +27,7 @@ use Rattle.sw_message.specs.declared.message.Msg.TheVariants as message
 use Rattle.sw_message.specs.declared.reply.Reply.{Reply}
 use Rattle.sw_message.specs.declared.reply.Reply.TheVariants as reply
 use Rattle.sw_message.specs.declared.sent.Sent.{Sent}
-use Rattle.sw_message.proofs.Spoils.{FaultLaw, asked_or_spoiled}
+use Rattle.sw_message.proofs.Spoils.{asked_or_spoiled}
 use Rattle.sw_scene.specs.Filed.{IsFiled}
 use Rattle.sw_scene.specs.Scene.{Scene, known_to}
 use Rattle.sw_scene.proofs.Changed.{found_file}
@@ -70,10 +69,6 @@ abbrev pub AreTrue : Scene → PlaceModel → List Step → Type 0
 AreTrue scene place past = (sent : Sent) (answer : Option Reply) → Contains past (Told sent answer) → (given : Reply) × (answer ≡ Some given) × IsTrue scene place sent given
 
 -- ---- archives of puts
-
--- bytes that are an archive have no fault
-pub law : FaultLaw
-law = record { not_both = no_fault; one = one_fault }
 
 module _ (cluster : ClusterModel) (book : List Booked) (sound : IsSoundBook cluster.policy book) (place : PlaceModel) where
   -- the bytes of a put are its archive
@@ -136,7 +131,7 @@ module _ (cluster : ClusterModel) (book : List Booked) (sound : IsSoundBook clus
                   | inl brought ↦
                       let replied : given ≡ reply.Fragment (step.found.bytes (Data stamp index there.0)) = step.replied ∙ ap (λ handling. handling.reply) brought.1 in
                       subst Fine (sym replied) of
-                  | inr spoilt ↦ absurd (asked_or_spoiled law cluster place stamp index (step.found.bytes (Data stamp index there.0)) spoilt.0 (archive_asked stamp index _ of) spoilt.1)
+                  | inr spoilt ↦ absurd (asked_or_spoiled cluster place stamp index (step.found.bytes (Data stamp index there.0)) spoilt.0 (archive_asked stamp index _ of) spoilt.1)
                 ]
           ],
         )

@@ -5,15 +5,11 @@ use Rattle.sw_disk.specs.Folder.{File}
 use Rattle.sw_hashpath.specs.Place.{PlaceModel}
 use Rattle.sw_hashpath.specs.declared.file_name.FileName.TheVariants.{Data, Tombstone}
 use Rattle.sw_diskfile.proofs.Obsoletes.{AreSame, one_directory}
-use Rattle.sw_archive.proofs.Faults.{no_fault, one_fault}
 use Rattle.sw_ring.specs.Cluster.{ClusterModel}
 use Rattle.sw_message.specs.Step.{IsFound}
 use Rattle.sw_message.specs.Table.{Found, Handling, HandlesCommit, HandlesDelete, HandlesPutFrag, HandlesRemove}
 use Rattle.sw_message.proofs.Directories.{covered_or_not, one_durable, one_existed, one_floor, one_purge, refused_or_allowed, there_or_lacks, turned}
-use Rattle.sw_message.proofs.Spoils.{FaultLaw, asked_or_spoiled, one_spoil}
-
-faults : FaultLaw
-faults = record { not_both = no_fault; one = one_fault }
+use Rattle.sw_message.proofs.Spoils.{asked_or_spoiled, one_spoil}
 
 -- of two cases the same one, where they exclude one another
 agree : {P Q R S Z : Type 0} → P ⊎ Q → R ⊎ S → (P → R → Z) → (P → S → ⊥) → (R → Q → ⊥) → (Q → S → Z) → Z
@@ -32,9 +28,9 @@ module _ (files : List File) (room : ℕ) (first second : Found) (is : IsFound f
   pub one_put : (cluster : ClusterModel) (place : PlaceModel) (stamp index : ℕ) (bytes : List ℕ) (a b : Handling) → HandlesPutFrag cluster place stamp index bytes first a → HandlesPutFrag cluster place stamp index bytes second b
       → a ≡ b
   one_put cluster place stamp index bytes a b x y = agree x y
-      (λ s t. let e = one_spoil faults cluster place stamp index bytes s.0 t.0 s.1 t.1 in cc)
-      (λ s t. asked_or_spoiled faults cluster place stamp index bytes s.0 t.0 s.1)
-      (λ s t. asked_or_spoiled faults cluster place stamp index bytes s.0 t.0 s.1)
+      (λ s t. let e = one_spoil cluster place stamp index bytes s.0 t.0 s.1 t.1 in cc)
+      (λ s t. asked_or_spoiled cluster place stamp index bytes s.0 t.0 s.1)
+      (λ s t. asked_or_spoiled cluster place stamp index bytes s.0 t.0 s.1)
       (λ s t. agree s.1 t.1
       (λ p q. let e = one_floor first.names second.names same p.0 q.0 p.1.0 q.1.0 in cc)
       (λ p q. covered_or_not first.names second.names same stamp p.0 p.1 q.0)

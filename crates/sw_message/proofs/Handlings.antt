@@ -16,7 +16,7 @@ use Rattle.sw_message.specs.Table.{Found, Handling, HandlesAsk, HandlesCommit, H
 use Rattle.sw_message.specs.declared.message.Msg.{Msg}
 use Rattle.sw_message.specs.declared.message.Msg.TheVariants.{PutFrag, Commit, Delete, Ask, Fetch, Remove, Parts, Suffixes, Places}
 use Rattle.sw_message.proofs.Directories.{covered_or_not, one_durable, one_existed, one_floor, one_listing, one_purge, refused_or_allowed, there_or_lacks, turned}
-use Rattle.sw_message.proofs.Spoils.{FaultLaw, asked_or_spoiled, one_spoil}
+use Rattle.sw_message.proofs.Spoils.{asked_or_spoiled, one_spoil}
 
 -- of two cases the same one, where they exclude one another
 agree : {P Q R S Z : Type 0} → P ⊎ Q → R ⊎ S → (P → R → Z) → (P → S → ⊥) → (R → Q → ⊥) → (Q → S → Z) → Z
@@ -42,7 +42,7 @@ module _ (files : List File) (room : ℕ) (first second : Found) (is : IsFound f
 
 -- ---- row by row
 
-module _ (law : FaultLaw) (cluster : ClusterModel) (files : List File) (room : ℕ) (first second : Found) (is : IsFound files room first) (also : IsFound files room second) where
+module _ (cluster : ClusterModel) (files : List File) (room : ℕ) (first second : Found) (is : IsFound files room first) (also : IsFound files room second) where
   same : AreSame first.names second.names
   same = same_names files room first second is also
 
@@ -51,9 +51,9 @@ module _ (law : FaultLaw) (cluster : ClusterModel) (files : List File) (room : �
 
   one_put : (place : PlaceModel) (stamp index : ℕ) (bytes : List ℕ) (a b : Handling) → HandlesPutFrag cluster place stamp index bytes first a → HandlesPutFrag cluster place stamp index bytes second b → a ≡ b
   one_put place stamp index bytes a b x y = agree x y
-      (λ s t. let e = one_spoil law cluster place stamp index bytes s.0 t.0 s.1 t.1 in cc)
-      (λ s t. asked_or_spoiled law cluster place stamp index bytes s.0 t.0 s.1)
-      (λ s t. asked_or_spoiled law cluster place stamp index bytes s.0 t.0 s.1)
+      (λ s t. let e = one_spoil cluster place stamp index bytes s.0 t.0 s.1 t.1 in cc)
+      (λ s t. asked_or_spoiled cluster place stamp index bytes s.0 t.0 s.1)
+      (λ s t. asked_or_spoiled cluster place stamp index bytes s.0 t.0 s.1)
       (λ s t. agree s.1 t.1
       (λ p q. let e = one_floor first.names second.names same p.0 q.0 p.1.0 q.1.0 in cc)
       (λ p q. covered_or_not first.names second.names same stamp p.0 p.1 q.0)
@@ -109,9 +109,9 @@ module _ (law : FaultLaw) (cluster : ClusterModel) (files : List File) (room : �
       let e : old ≡ new = same_bytes files room first second is also (Data stamp index s.0) (entry_there first.names stamp index s.0 s.1) ∙ ap (λ durable. second.bytes (Data stamp index durable)) d in
       agree s.2 t.2
       (λ p q. cc)
-      (λ p q. asked_or_spoiled law cluster place stamp index new q.0 (subst (IsArchiveOf cluster place stamp index) e p.0) q.1)
-      (λ p q. asked_or_spoiled law cluster place stamp index old q.0 (subst (IsArchiveOf cluster place stamp index) (sym e) p.0) q.1)
-      (λ p q. let o = one_spoil law cluster place stamp index new p.0 q.0 (subst (λ bytes. IsSpoil cluster place stamp index bytes p.0) e p.1) q.1 in cc))
+      (λ p q. asked_or_spoiled cluster place stamp index new q.0 (subst (IsArchiveOf cluster place stamp index) e p.0) q.1)
+      (λ p q. asked_or_spoiled cluster place stamp index old q.0 (subst (IsArchiveOf cluster place stamp index) (sym e) p.0) q.1)
+      (λ p q. let o = one_spoil cluster place stamp index new p.0 q.0 (subst (λ bytes. IsSpoil cluster place stamp index bytes p.0) e p.1) q.1 in cc))
 
   one_remove : (primary : Bool) (place : PlaceModel) (stamp index : ℕ) (a b : Handling) → HandlesRemove primary place stamp index first a → HandlesRemove primary place stamp index second b → a ≡ b
   one_remove primary place stamp index a b x y = agree x y

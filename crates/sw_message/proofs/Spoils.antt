@@ -1,12 +1,13 @@
 -- Bytes are the archive that was asked for, or they have one spoil, and not both.
-use Rattle.std.proofs.Common.{◌≡◌, ℕ, List, refl, ap, subst}
+use Rattle.std.proofs.Common.{◌≡◌, ℕ, List, Result, Ok, Err, refl, ap, subst}
+use Rattle.std.specs.Prelude.{MatchResult}
 use Rattle.sw_types.specs.Name.{NameModel}
 use Rattle.sw_types.specs.Policy.{PolicyModel}
 use Rattle.sw_hashpath.specs.Place.{PlaceModel}
 use Rattle.sw_archive.specs.Archive.{ArchiveModel, IsArchive}
 use Rattle.sw_archive.specs.Fault.{IsFault}
-use Rattle.sw_archive.specs.declared.fault.ArchiveFault.{ArchiveFault}
 use Rattle.sw_archive.proofs.Archives.{one_archive}
+use Rattle.sw_archive.proofs.Faults.{no_fault, one_fault}
 use Rattle.sw_ring.specs.Cluster.{ClusterModel}
 use Rattle.sw_message.specs.Spoil.{Differs, DiffersIn, IsAlike, IsArchiveOf, IsAsked, IsOfPlace, IsSpoil, IsSpoilOf}
 use Rattle.sw_message.specs.declared.spoil.Foreign.{Foreign as AForeign}
@@ -67,17 +68,12 @@ other_than_asked Named policy stamp index bytes archive other foreign is spelled
 
 -- ---- spoils
 
--- what the law of faults says
-pub record FaultLaw : Type 0 where
-  pub not_both : (bytes : List ℕ) (archive : ArchiveModel) (fault : ArchiveFault) → IsArchive bytes archive → IsFault bytes fault → ⊥
-  pub one : (bytes : List ℕ) (first second : ArchiveFault) → IsFault bytes first → IsFault bytes second → first ≡ second
-
-module _ (law : FaultLaw) (Named : NameModel → Type 0) (policy : PolicyModel) (stamp index : ℕ) (bytes : List ℕ) where
+module _ (Named : NameModel → Type 0) (policy : PolicyModel) (stamp index : ℕ) (bytes : List ℕ) where
   abbrev SpoilsOf : Spoil → Type 0
   SpoilsOf spoil = IsSpoilOf Named policy stamp index bytes spoil
 
   pub asked_or_spoil : (archive : ArchiveModel) → IsArchive bytes archive → IsAsked Named policy stamp index archive → (spoil : Spoil) → SpoilsOf spoil → ⊥
-  asked_or_spoil archive is asked (Fault fault) spoils = law.not_both bytes archive fault is spoils
+  asked_or_spoil archive is asked (Fault fault) spoils = no_fault bytes archive fault is spoils
   asked_or_spoil archive is asked (Foreign foreign) spoils = other_than_asked Named policy stamp index bytes archive spoils.0 foreign is spoils.1 asked spoils.2
 
   one_foreign : (a b : AForeign) → SpoilsOf (Foreign a) → SpoilsOf (Foreign b) → a ≡ b
@@ -85,15 +81,27 @@ module _ (law : FaultLaw) (Named : NameModel → Type 0) (policy : PolicyModel) 
       one_difference Named policy stamp index y.0 a b (subst (λ (archive : ArchiveModel). Differs Named policy stamp index archive a) (one_archive bytes x.0 y.0 x.1 y.1) x.2) y.2
 
   pub one_spoil_of : (a b : Spoil) → SpoilsOf a → SpoilsOf b → a ≡ b
-  one_spoil_of (Fault a) (Fault b) x y = ap (λ f. Fault f) (law.one bytes a b x y)
-  one_spoil_of (Fault a) (Foreign b) x y = absurd (law.not_both bytes y.0 a y.1 x)
-  one_spoil_of (Foreign a) (Fault b) x y = absurd (law.not_both bytes x.0 b x.1 y)
+  one_spoil_of (Fault a) (Fault b) x y = ap (λ f. Fault f) (one_fault bytes a b x y)
+  one_spoil_of (Fault a) (Foreign b) x y = absurd (no_fault bytes y.0 a y.1 x)
+  one_spoil_of (Foreign a) (Fault b) x y = absurd (no_fault bytes x.0 b x.1 y)
   one_spoil_of (Foreign a) (Foreign b) x y = ap (λ f. Foreign f) (one_foreign a b x y)
 
+  -- what checking the bytes gives
+  abbrev IsChecked : Result ArchiveModel Spoil → Type 0
+  IsChecked result = MatchResult result (λ archive. IsArchive bytes archive × IsAsked Named policy stamp index archive) SpoilsOf
+
+  pub reads : (result : Result ArchiveModel Spoil) → IsChecked result → (archive : ArchiveModel) → IsArchive bytes archive → IsAsked Named policy stamp index archive → result ≡ Ok archive
+  reads (Ok read) checked archive is asked = ap (λ (a : ArchiveModel). Ok a) (one_archive bytes read archive checked.0 is)
+  reads (Err spoil) checked archive is asked = absurd (asked_or_spoil archive is asked spoil checked)
+
+  pub spoiled : (result : Result ArchiveModel Spoil) → IsChecked result → (spoil : Spoil) → SpoilsOf spoil → result ≡ Err spoil
+  spoiled (Ok read) checked spoil spoils = absurd (asked_or_spoil read checked.0 checked.1 spoil spoils)
+  spoiled (Err first) checked spoil spoils = ap (λ (s : Spoil). Err s) (one_spoil_of first spoil checked spoils)
+
 -- of a place
-module _ (law : FaultLaw) (cluster : ClusterModel) (place : PlaceModel) (stamp index : ℕ) (bytes : List ℕ) where
+module _ (cluster : ClusterModel) (place : PlaceModel) (stamp index : ℕ) (bytes : List ℕ) where
   pub asked_or_spoiled : (spoil : Spoil) → IsArchiveOf cluster place stamp index bytes → IsSpoil cluster place stamp index bytes spoil → ⊥
-  asked_or_spoiled spoil is spoils = asked_or_spoil law (IsOfPlace cluster place) cluster.policy stamp index bytes is.archive is.spelled is.asked spoil spoils
+  asked_or_spoiled spoil is spoils = asked_or_spoil (IsOfPlace cluster place) cluster.policy stamp index bytes is.archive is.spelled is.asked spoil spoils
 
   pub one_spoil : (a b : Spoil) → IsSpoil cluster place stamp index bytes a → IsSpoil cluster place stamp index bytes b → a ≡ b
-  one_spoil a b x y = one_spoil_of law (IsOfPlace cluster place) cluster.policy stamp index bytes a b x y
+  one_spoil a b x y = one_spoil_of (IsOfPlace cluster place) cluster.policy stamp index bytes a b x y

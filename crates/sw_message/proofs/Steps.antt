@@ -10,10 +10,9 @@ use Rattle.sw_message.specs.Table.{Handling}
 use Rattle.sw_message.specs.declared.message.Msg.{Msg}
 use Rattle.sw_message.specs.declared.reply.Reply.{Reply}
 use Rattle.sw_message.proofs.Handlings.{one_handling}
-use Rattle.sw_message.proofs.Spoils.{FaultLaw}
 use Rattle.sw_message.proofs.Surveys.{one_answer}
 
-module _ (law : FaultLaw) (cluster : ClusterModel) (device room : ℕ) (message : Msg) (before after other : Folders) (first second : Reply) where
+module _ (cluster : ClusterModel) (device room : ℕ) (message : Msg) (before after other : Folders) (first second : Reply) where
   -- the replies and the folders are the same
   abbrev AreOne : Type 0
   AreOne = (first ≡ second) × ((name : List ℕ) → after name ≡ other name)
@@ -21,7 +20,7 @@ module _ (law : FaultLaw) (cluster : ClusterModel) (device room : ℕ) (message 
   one_in_place : (place : PlaceModel) → IsPlaceStep cluster device room message place before after first → IsPlaceStep cluster device room message place before other second → AreOne
   one_in_place place x y =
       let folder = folder_of place in
-      let one = one_handling law cluster (before folder) room x.found y.found x.is_found y.is_found device message x.handling y.handling x.handled y.handled in
+      let one = one_handling cluster (before folder) room x.found y.found x.is_found y.is_found device message x.handling y.handling x.handled y.handled in
       let there : after folder ≡ other folder = x.changed.changed ∙ ap (λ (h : Handling). all_changed h.changes (before folder)) one ∙ sym y.changed.changed in (
         x.replied ∙ ap (λ (h : Handling). h.reply) one ∙ sym y.replied,
         λ name. elim (same_or_other name folder) [

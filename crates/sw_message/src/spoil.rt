@@ -2,6 +2,7 @@
 
 ghost use Rattle.std.specs.Prelude.{◌≡◌};
 ghost use Rattle.sw_message.specs.Spoil.{foreign_number};
+ghost use Rattle.sw_message.specs.declared.spoil.Spoil.TheVariants.{Fault};
 
 use sw_archive::ArchiveFault;
 
@@ -42,4 +43,12 @@ pub enum Spoil {
     Fault(ArchiveFault),
     /// They are another one.
     Foreign(Foreign),
+}
+
+impl From<ArchiveFault> for Spoil {
+    ghost from_gives = { λ fault spoil. spoil ≡ Fault fault };
+
+    fn from(fault: ArchiveFault) -> Spoil {
+        Spoil::Fault(fault)
+    }
 }

@@ -22,7 +22,7 @@ use Rattle.sw_message.specs.declared.reply.Reply.{Reply}
 use Rattle.sw_message.specs.declared.reply.Reply.TheVariants.{Fragment, Spoiled}
 use Rattle.sw_message.specs.declared.spoil.Spoil.{Spoil}
 use Rattle.sw_message.specs.declared.message.Msg.TheVariants as message
-use Rattle.sw_objsrv.specs.Handling.{Follows, IsAnswer, StopsReading, StopsAt}
+use Rattle.sw_objsrv.specs.Handling.{Follows, IsAnswer, StopsReading, StopsAt, StopsBefore}
 use Rattle.sw_objsrv.proofs.AfterLook.{files_before}
 use Rattle.sw_objsrv.proofs.Found.{entry_at, found_in, is_found, read_is}
 use Rattle.sw_diskfile.proofs.Steps.{changes_by}
@@ -107,11 +107,7 @@ module _ (cluster : ClusterModel) (place : PlaceModel) (stamp index : ℕ) where
       pub stops_read : (reason : DiskRefusal) → IsNotFull reason → Runs seen left_since (reads folder (Data entry.stamp entry.index entry.durable)) (Some reason) b c → StopsReading seen left_since (message.Fetch place stamp index) (Err reason) a c
       stops_read Failed other read = (names, directory, entry.durable, there_is, read_runs (Some Failed) read)
       stops_read (Full need free) other read = absurd other
-      stops_read NoMemory other read = (names, directory, entry.durable, there_is, inl (read_runs (Some NoMemory) read))
-
-      -- memory was wanted behind it
-      pub wants_read : Runs seen left_since (reads folder (Data entry.stamp entry.index entry.durable)) None b c → StopsReading seen left_since (message.Fetch place stamp index) (Err NoMemory) a c
-      wants_read read = (names, directory, entry.durable, there_is, inr (refl, read_runs None read))
+      stops_read NoMemory other read = (names, directory, entry.durable, there_is, read_runs (Some NoMemory) read)
 
 -- ---- reads that were stopped
 
@@ -128,11 +124,19 @@ module _ {D : Type 0} (seen : D → Seen) (left_since : D → Past) (a b : D) wh
   no_answer (message.Suffixes part) reply read = read
   no_answer (message.Places part) reply read = read
 
+  -- what stops before a call stops at it
+  stops_at : (calls : List Call) (result : Result Reply DiskRefusal) → StopsBefore seen left_since calls result a b → StopsAt seen left_since calls result a b
+  stops_at calls (Ok reply) stops = stops
+  stops_at calls (Err Failed) stops = stops
+  stops_at calls (Err (Full need free)) stops = stops
+  stops_at calls (Err NoMemory) stops = inl stops
+
   -- and their calls change nothing
   pub stops_reading : (asked : Msg) (result : Result Reply DiskRefusal) → StopsReading seen left_since asked result a b
       → (calls : List Call) × ((name : List ℕ) (temporary : Option Content) → changes_by name calls temporary ≡ []) × StopsAt seen left_since calls result a b
   stops_reading (message.Fetch place stamp index) result read =
-      (ListNames (folder_of place) ∷ ReadFile (folder_of place) (file_name_text (Data stamp index read.2)) ∷ [], (λ name temporary. refl), read.4)
+      let calls : List Call = ListNames (folder_of place) ∷ ReadFile (folder_of place) (file_name_text (Data stamp index read.2)) ∷ [] in
+      (calls, (λ name temporary. refl), stops_at calls result read.4)
   stops_reading (message.PutFrag place stamp index bytes) result read = absurd read
   stops_reading (message.Commit place stamp index) result read = absurd read
   stops_reading (message.Delete place stamp) result read = absurd read

@@ -3,3 +3,4 @@ pub mod Folder
 pub mod Handling
 pub mod Mounting
 pub mod Node
+pub mod Storing

@@ -12,7 +12,7 @@ use std::alloc::Global;
 use sw_disk::{Disk, DiskRefusal};
 use sw_diskfile::fetch as fetch_entry;
 use sw_hashpath::Place;
-use sw_message::{Reply, Unread, read_asked};
+use sw_message::{Reply, check_asked};
 use sw_ring::Cluster;
 use sw_types::Stamp;
 
@@ -44,9 +44,8 @@ pub(crate) fn fetch<D: Disk>(
         return Ok(Reply::Gone(looked.dir.listing(alloc)?));
     };
     let bytes = fetch_entry(alloc, disk, &looked.folder, entry)?;
-    match read_asked(alloc, cluster, place, stamp, index, bytes.as_slice()) {
+    match check_asked(cluster, place, stamp, index, bytes.as_slice()) {
         Ok(_archive) => Ok(Reply::Fragment(bytes)),
-        Err(Unread::Spoiled(spoil)) => Ok(Reply::Spoiled(spoil)),
-        Err(Unread::NoMemory) => Err(DiskRefusal::NoMemory),
+        Err(spoil) => Ok(Reply::Spoiled(spoil)),
     }
 }

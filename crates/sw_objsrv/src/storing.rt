@@ -1,6 +1,6 @@
 //! Storing archives.
 
-ghost use Rattle.std.specs.Prelude.{◌≡◌, ◌≢◌, ◌≤◌, Bool, OnOk, Option, Some, length, ⊤};
+ghost use Rattle.std.specs.Prelude.{◌≡◌, ◌≢◌, ◌≤◌, Bool, MatchOption, OnOk, Option, Some, length, ⊤};
 ghost use Rattle.sw_disk.specs.Runs.{refusal_of};
 ghost use Rattle.sw_disk.specs.declared.refusal.DiskRefusal.{DiskRefusal as ARefusal};
 ghost use Rattle.sw_disk.specs.declared.refusal.DiskRefusal.TheVariants.{Failed};
@@ -10,13 +10,15 @@ ghost use Rattle.sw_diskfile.specs.Changes.{Keeps};
 ghost use Rattle.sw_message.specs.Table.{HandlesPutFrag};
 ghost use Rattle.sw_objsrv.specs.Folder.{StaysInOrder};
 ghost use Rattle.sw_objsrv.specs.Handling.{Handles};
+ghost use Rattle.sw_objsrv.specs.Storing.{IsKnown, IsToStore};
 
 use crate::looking::{covering, look_at};
 use std::alloc::Global;
 use sw_disk::{Disk, DiskRefusal};
 use sw_diskfile::store;
+use sw_hashdir::HashDir;
 use sw_hashpath::Place;
-use sw_message::{Reply, Unread, read_asked};
+use sw_message::{Reply, check_asked};
 use sw_ring::Cluster;
 use sw_types::Stamp;
 
@@ -36,17 +38,32 @@ pub(crate) fn put_frag<D: Disk>(
     ensures unmade { (reason : ARefusal) → refusal_of result ≡ Some reason → reason ≢ Failed → Keeps D.seen D.left_since (λ name. ⊤) disk.old disk.new }
 {
     let looked = look_at(alloc, disk, place)?;
-    match read_asked(alloc, cluster, place, stamp, index, bytes) {
-        Ok(_archive) => {}
-        Err(Unread::Spoiled(spoil)) => return Ok(Reply::Spoiled(spoil)),
-        Err(Unread::NoMemory) => return Err(DiskRefusal::NoMemory),
-    }
-    if let Some(floor) = covering(&looked.dir, stamp) {
-        return Ok(Reply::Superseded(floor));
-    }
-    if looked.dir.entry(stamp, index).is_some() {
-        return Ok(Reply::Synced);
+    if let Some(reply) = known(cluster, place, &looked.dir, stamp, index, bytes) {
+        return Ok(reply);
     }
     store(alloc, disk, &looked.folder, stamp, index, bytes)?;
     Ok(Reply::Synced)
+}
+
+// The reply where nothing is to be stored: the archive is spoiled, superseded or there.
+fn known(
+    cluster: &Cluster,
+    place: &Place,
+    dir: &HashDir,
+    stamp: Stamp,
+    index: u32,
+    bytes: &[u8],
+) -> Option<Reply>
+    ensures { MatchOption result (IsToStore cluster.now place.now dir.now stamp index bytes.now) (IsKnown cluster.now place.now dir.now stamp index bytes.now) }
+{
+    if let Err(spoil) = check_asked(cluster, place, stamp, index, bytes) {
+        return Some(Reply::Spoiled(spoil));
+    }
+    if let Some(floor) = covering(dir, stamp) {
+        return Some(Reply::Superseded(floor));
+    }
+    if dir.entry(stamp, index).is_some() {
+        return Some(Reply::Synced);
+    }
+    None
 }

@@ -4,16 +4,12 @@ use Rattle.sw_hashpath.specs.Place.{folder_of}
 use Rattle.sw_hashpath.specs.declared.file_name.FileName.TheVariants.{Data}
 use Rattle.sw_message.specs.Spoil.{IsArchiveOf, IsSpoil}
 use Rattle.sw_message.specs.Table.{HandlesFetch}
-use Rattle.sw_message.specs.declared.checking.Unread.TheVariants as unread
 use Rattle.sw_message.specs.declared.reply.Reply.TheVariants.{Fragment, Gone, Spoiled}
 use Rattle.sw_message.specs.declared.spoil.Spoil.{Spoil}
 use Rattle.sw_objsrv.proofs.AfterLook.{directory_looked, handles_at_once, has_file, keeps_after}
-use Rattle.sw_objsrv.proofs.Fetched.{fetched, stops_read, wants_read}
+use Rattle.sw_objsrv.proofs.Fetched.{fetched, stops_read}
 use Rattle.sw_hashdir.specs.Laws.{entry_there}
 use Rattle.sw_objsrv.proofs.reading.fetch.Goals as goal
-
-one_unread : (a b : Spoil) → unread.Spoiled a ≡ unread.Spoiled b → a ≡ b
-one_unread a b is = cc
 
 pub returns-in_default-clause-handles : goal.returns-in_default-clause-handles
 returns-in_default-clause-handles g c =
@@ -47,15 +43,14 @@ returns-in-Ok-clause-handles g c =
     c.in_ok-looked.ensures.directory c.in_ok-looked.ensures.runs c.deref.result.now (c.deref.ensures ∙ c.in_ok-looked.ensures.folder) c.in_ok-bytes.bytes c.in_ok-bytes.ensures.bytes c.in_ok-bytes.ensures.runs
     (Fragment c.in_ok-bytes.bytes) (inl (subst (IsArchiveOf c.args.cluster.now place c.args.stamp c.args.index) c.as_slice.ensures archive, refl))))
 
-pub returns-in-Err-Spoiled-clause-handles : goal.returns-in-Err-Spoiled-clause-handles
-returns-in-Err-Spoiled-clause-handles g c =
+pub returns-in-Err-clause-handles : goal.returns-in-Err-clause-handles
+returns-in-Err-clause-handles g c =
     let entry = c.in-Some in
     let place = c.args.place.now in
-    let spoil = (rw c.in-Err-Spoiled.field-0-is at c.in-Err-Spoiled.ensures.refused) (λ want. cc) in
-    let same : c.in-Err-Spoiled.spoil ≡ spoil.0 = one_unread c.in-Err-Spoiled.spoil spoil.0 spoil.1 in
+    let spoil = c.in-Err.spoil in
     inl (inr (fetched c.args.cluster.now place c.args.stamp c.args.index c.in_ok-looked.looked.dir entry.entry entry.ensures.0 entry.ensures.1 entry.ensures.2 g.D.Disk.seen g.D.Disk.left_since c.args.disk.now c.look_at.new.disk c.fetch.new.disk
     c.in_ok-looked.ensures.directory c.in_ok-looked.ensures.runs c.deref.result.now (c.deref.ensures ∙ c.in_ok-looked.ensures.folder) c.in_ok-bytes.bytes c.in_ok-bytes.ensures.bytes c.in_ok-bytes.ensures.runs
-    (Spoiled c.in-Err-Spoiled.spoil) (inr (spoil.0, subst (λ (bytes : List ℕ). IsSpoil c.args.cluster.now place c.args.stamp c.args.index bytes spoil.0) c.as_slice.ensures spoil.2, ap (λ (s : Spoil). Spoiled s) same))))
+    (Spoiled spoil) (inr (spoil, subst (λ (bytes : List ℕ). IsSpoil c.args.cluster.now place c.args.stamp c.args.index bytes spoil) c.as_slice.ensures c.in-Err.ensures.refused, refl))))
 
 pub returns-in_err-bytes-clause-handles : goal.returns-in_err-bytes-clause-handles
 returns-in_err-bytes-clause-handles g c =
@@ -63,12 +58,6 @@ returns-in_err-bytes-clause-handles g c =
     let entry = c.in-Some in
     rw (p.1, p.2) (inr (stops_read c.args.cluster.now c.args.place.now c.args.stamp c.args.index c.in_ok-looked.looked.dir entry.entry entry.ensures.0 entry.ensures.1 entry.ensures.2 g.D.Disk.seen g.D.Disk.left_since c.args.disk.now c.look_at.new.disk c.fetch.new.disk
     c.in_ok-looked.ensures.directory c.in_ok-looked.ensures.runs c.deref.result.now (c.deref.ensures ∙ c.in_ok-looked.ensures.folder) c.in_err-bytes.field-0.0 c.in_err-bytes.ensures.never_full c.in_err-bytes.ensures.runs))
-
-pub returns-clause-handles : goal.returns-clause-handles
-returns-clause-handles g c =
-    let entry = c.in-Some in
-    inr (wants_read c.args.cluster.now c.args.place.now c.args.stamp c.args.index c.in_ok-looked.looked.dir entry.entry entry.ensures.0 entry.ensures.1 entry.ensures.2 g.D.Disk.seen g.D.Disk.left_since c.args.disk.now c.look_at.new.disk c.fetch.new.disk
-    c.in_ok-looked.ensures.directory c.in_ok-looked.ensures.runs c.deref.result.now (c.deref.ensures ∙ c.in_ok-looked.ensures.folder) c.in_ok-bytes.ensures.runs)
 
 pub returns-in_err-bytes-clause-kept : goal.returns-in_err-bytes-clause-kept
 returns-in_err-bytes-clause-kept g c =
@@ -80,12 +69,7 @@ returns-in-Ok-clause-kept g c =
     keeps_after g.D.Disk.seen g.D.Disk.left_since (folder_of c.args.place.now) g.D.Disk.tells c.args.disk.now c.look_at.new.disk c.fetch.new.disk (g.met.D.Disk.telling c.args.disk.now) (g.met.D.Disk.telling c.look_at.new.disk)
     c.in_ok-looked.ensures.runs c.in_ok-looked.ensures.kept c.in_ok-bytes.ensures.kept
 
-pub returns-in-Err-Spoiled-clause-kept : goal.returns-in-Err-Spoiled-clause-kept
-returns-in-Err-Spoiled-clause-kept g c =
-    keeps_after g.D.Disk.seen g.D.Disk.left_since (folder_of c.args.place.now) g.D.Disk.tells c.args.disk.now c.look_at.new.disk c.fetch.new.disk (g.met.D.Disk.telling c.args.disk.now) (g.met.D.Disk.telling c.look_at.new.disk)
-    c.in_ok-looked.ensures.runs c.in_ok-looked.ensures.kept c.in_ok-bytes.ensures.kept
-
-pub returns-clause-kept : goal.returns-clause-kept
-returns-clause-kept g c =
+pub returns-in-Err-clause-kept : goal.returns-in-Err-clause-kept
+returns-in-Err-clause-kept g c =
     keeps_after g.D.Disk.seen g.D.Disk.left_since (folder_of c.args.place.now) g.D.Disk.tells c.args.disk.now c.look_at.new.disk c.fetch.new.disk (g.met.D.Disk.telling c.args.disk.now) (g.met.D.Disk.telling c.look_at.new.disk)
     c.in_ok-looked.ensures.runs c.in_ok-looked.ensures.kept c.in_ok-bytes.ensures.kept

@@ -1,86 +1,47 @@
-use Rattle.std.proofs.Common.{◌≡◌, ◌≤◌, true, false, true≢false, ℕ, List, Option, None, Some, Result, Err, refl, sym, ap, subst, inl, inr, ◌∙◌}
-use Rattle.std.specs.Prelude.{MatchOption, is_some}
+use Rattle.std.proofs.Common.{◌≡◌, ◌≤◌, false, ℕ, List, None, Some, Result, Err, refl, sym, ap, subst, inl, inr, ◌∙◌}
 use Rattle.std.proofs.lemmas.Result.{err_from_is_err_and}
 use Rattle.sw_disk.specs.Runs.{Runs}
 use Rattle.sw_disk.specs.State.{size_of}
 use Rattle.sw_disk.specs.declared.refusal.DiskRefusal.{DiskRefusal}
-use Rattle.sw_hashpath.specs.Place.{folder_of}
+use Rattle.sw_hashpath.specs.Place.{PlaceModel, folder_of}
+use Rattle.sw_hashpath.specs.declared.file_name.FileName.{FileName}
 use Rattle.sw_hashpath.specs.declared.file_name.FileName.TheVariants.{Data}
-use Rattle.sw_hashdir.specs.declared.entry.Entry.{Entry}
 use Rattle.sw_diskfile.specs.Calls.{store_calls}
 use Rattle.sw_diskfile.specs.Changes.{IfBothTold, IsMadeStable}
 use Rattle.sw_diskfile.specs.Names.{MakesName}
-use Rattle.sw_message.specs.Spoil.{IsArchiveOf, IsSpoil}
+use Rattle.sw_ring.specs.Cluster.{ClusterModel}
 use Rattle.sw_message.specs.Table.{HandlesPutFrag, plain_text}
-use Rattle.sw_message.specs.declared.checking.Unread.TheVariants as unread
-use Rattle.sw_message.specs.declared.reply.Reply.TheVariants.{Spoiled, Superseded, Synced}
-use Rattle.sw_message.specs.declared.spoil.Spoil.{Spoil}
+use Rattle.sw_message.specs.declared.reply.Reply.{Reply}
+use Rattle.sw_objsrv.specs.Changing.{IsAtOnce}
+use Rattle.sw_objsrv.specs.Storing.{IsKnown}
 use Rattle.sw_objsrv.proofs.AfterLook.{directory_looked, handles_at_once, keeps_after, lacks_file, order_looked}
-use Rattle.sw_objsrv.proofs.Found.{entry_at}
 use Rattle.sw_objsrv.proofs.RowForms.{archive_name}
 use Rattle.sw_objsrv.proofs.Stored.{stays_stored, stored, stored_refused}
 use Rattle.sw_objsrv.proofs.Told.{told_each}
 use Rattle.sw_objsrv.proofs.storing.put_frag.Goals as goal
 
--- ---- whether an entry is there
-
-entry_some : (entry : Option Entry) (Lacks : Type 0) (Has : Entry → Type 0) → is_some entry ≡ true → MatchOption entry Lacks Has → (there : Entry) × Has there
-entry_some None Lacks Has some is = absurd (true≢false (sym some))
-entry_some (Some there) Lacks Has some is = (there, is)
-
-entry_none : (entry : Option Entry) (Lacks : Type 0) (Has : Entry → Type 0) → is_some entry ≡ false → MatchOption entry Lacks Has → Lacks
-entry_none None Lacks Has none is = is
-entry_none (Some there) Lacks Has none is = absurd (true≢false none)
-
-one_unread : (a b : Spoil) → unread.Spoiled a ≡ unread.Spoiled b → a ≡ b
-one_unread a b is = cc
-
 -- ---- what is answered without a device call
 
-pub returns-in-Err-Spoiled-clause-handles : goal.returns-in-Err-Spoiled-clause-handles
-returns-in-Err-Spoiled-clause-handles g c =
-    let place = c.args.place.now in
-    let dir = c.in_ok-looked.looked.dir in
-    let Row = HandlesPutFrag c.args.cluster.now place c.args.stamp c.args.index c.args.bytes.now in
-    let reply = Spoiled c.in-Err-Spoiled.spoil in
-    let spoil = (rw c.in-Err-Spoiled.field-0-is at c.in-Err-Spoiled.ensures.refused) (λ want. cc) in
-    let same : c.in-Err-Spoiled.spoil ≡ spoil.0 = one_unread c.in-Err-Spoiled.spoil spoil.0 spoil.1 in
-    let spoils = subst (IsSpoil c.args.cluster.now place c.args.stamp c.args.index c.args.bytes.now) (sym same) spoil.2 in
-    rw c.in-Err-Spoiled.field-0-is
-    (handles_at_once g.D.Disk.seen g.D.Disk.left_since (folder_of place) Row dir reply c.args.disk.now c.look_at.new.disk c.in_ok-looked.ensures.runs c.in_ok-looked.ensures.directory
-    (tt, λ bytes room. inl (c.in-Err-Spoiled.spoil, spoils, refl)))
+-- such an answer is a row of the table, whatever the bytes and the room are
+known_at_once : (cluster : ClusterModel) (place : PlaceModel) (names : List FileName) (stamp index : ℕ) (bytes : List ℕ) (reply : Reply) → IsKnown cluster place names stamp index bytes reply
+    → IsAtOnce (folder_of place) (HandlesPutFrag cluster place stamp index bytes) names reply
+known_at_once cluster place names stamp index bytes reply (inl spoil) =
+    subst (IsAtOnce (folder_of place) (HandlesPutFrag cluster place stamp index bytes) names) (sym spoil.2) (tt, λ content room. inl (spoil.0, spoil.1, refl))
+known_at_once cluster place names stamp index bytes reply (inr (asked, inl above)) =
+    subst (IsAtOnce (folder_of place) (HandlesPutFrag cluster place stamp index bytes) names) (sym above.2) (tt, λ content room. inr (asked, inl (above.0, above.1, refl)))
+known_at_once cluster place names stamp index bytes reply (inr (asked, inr there)) =
+    subst (IsAtOnce (folder_of place) (HandlesPutFrag cluster place stamp index bytes) names) (sym there.3) (tt, λ content room. inr (asked, inr (there.0, inl (there.1, there.2, refl))))
 
 pub returns-in-Some-clause-handles : goal.returns-in-Some-clause-handles
 returns-in-Some-clause-handles g c =
     let place = c.args.place.now in
     let dir = c.in_ok-looked.looked.dir in
-    let Row = HandlesPutFrag c.args.cluster.now place c.args.stamp c.args.index c.args.bytes.now in
-    let reply = Superseded c.in-Some.floor in
-    let asked : IsArchiveOf c.args.cluster.now place c.args.stamp c.args.index c.args.bytes.now = record { archive = c.in-Ok._archive; spelled = c.in-Ok.ensures.found.0; asked = c.in-Ok.ensures.found.1 } in
-    handles_at_once g.D.Disk.seen g.D.Disk.left_since (folder_of place) Row dir reply c.args.disk.now c.look_at.new.disk c.in_ok-looked.ensures.runs c.in_ok-looked.ensures.directory
-    (tt, λ bytes room. inr (asked, inl (c.in-Some.floor, c.in-Some.ensures, refl)))
-
-pub returns-then-is_some-clause-handles : goal.returns-then-is_some-clause-handles
-returns-then-is_some-clause-handles g c =
-    let place = c.args.place.now in
-    let dir = c.in_ok-looked.looked.dir in
-    let Row = HandlesPutFrag c.args.cluster.now place c.args.stamp c.args.index c.args.bytes.now in
-    let asked : IsArchiveOf c.args.cluster.now place c.args.stamp c.args.index c.args.bytes.now = record { archive = c.in-Ok._archive; spelled = c.in-Ok.ensures.found.0; asked = c.in-Ok.ensures.found.1 } in
-    let found = entry_some c.entry.result _ _ (sym c.if-is_some.ensures) c.entry.ensures in
-    let there = entry_at dir found.0 c.args.stamp c.args.index found.1 in
-    handles_at_once g.D.Disk.seen g.D.Disk.left_since (folder_of place) Row dir Synced c.args.disk.now c.look_at.new.disk c.in_ok-looked.ensures.runs c.in_ok-looked.ensures.directory
-    (tt, λ bytes room. inr (asked, inr (c.in_default.ensures, inl (found.0.durable, there, refl))))
-
-pub returns-in-Err-Spoiled-clause-order : goal.returns-in-Err-Spoiled-clause-order
-returns-in-Err-Spoiled-clause-order g c = λ primary floor.
-    order_looked g.D.Disk.seen g.D.Disk.left_since (folder_of c.args.place.now) g.D.Disk.tells primary floor c.args.disk.now c.look_at.new.disk (g.met.D.Disk.telling c.args.disk.now) (g.met.D.Disk.telling c.look_at.new.disk) c.in_ok-looked.ensures.kept
+    let reply = c.in-Some.reply in
+    handles_at_once g.D.Disk.seen g.D.Disk.left_since (folder_of place) (HandlesPutFrag c.args.cluster.now place c.args.stamp c.args.index c.args.bytes.now) dir reply c.args.disk.now c.look_at.new.disk c.in_ok-looked.ensures.runs c.in_ok-looked.ensures.directory
+    (known_at_once c.args.cluster.now place dir c.args.stamp c.args.index c.args.bytes.now reply c.in-Some.ensures)
 
 pub returns-in-Some-clause-order : goal.returns-in-Some-clause-order
 returns-in-Some-clause-order g c = λ primary floor.
-    order_looked g.D.Disk.seen g.D.Disk.left_since (folder_of c.args.place.now) g.D.Disk.tells primary floor c.args.disk.now c.look_at.new.disk (g.met.D.Disk.telling c.args.disk.now) (g.met.D.Disk.telling c.look_at.new.disk) c.in_ok-looked.ensures.kept
-
-pub returns-then-is_some-clause-order : goal.returns-then-is_some-clause-order
-returns-then-is_some-clause-order g c = λ primary floor.
     order_looked g.D.Disk.seen g.D.Disk.left_since (folder_of c.args.place.now) g.D.Disk.tells primary floor c.args.disk.now c.look_at.new.disk (g.met.D.Disk.telling c.args.disk.now) (g.met.D.Disk.telling c.look_at.new.disk) c.in_ok-looked.ensures.kept
 
 -- ---- what is stored
@@ -92,11 +53,10 @@ pub store-requires-clause-new : goal.store-requires-clause-new
 store-requires-clause-new g c =
     let dir = c.in_ok-looked.looked.dir in
     let name = Data c.args.stamp c.args.index false in
-    let asked : IsArchiveOf c.args.cluster.now c.args.place.now c.args.stamp c.args.index c.args.bytes.now = record { archive = c.in-Ok._archive; spelled = c.in-Ok.ensures.found.0; asked = c.in-Ok.ensures.found.1 } in
-    let lacks = entry_none c.entry.result _ _ (sym c.if-is_some.ensures) c.entry.ensures in
+    let due = c.in_default.ensures in
     let directory = directory_looked g.D.Disk.seen g.D.Disk.left_since (folder_of c.args.place.now) dir c.args.disk.now c.look_at.new.disk c.in_ok-looked.ensures.runs c.in_ok-looked.ensures.directory in
     rw (c.deref.ensures, c.in_ok-looked.ensures.folder)
-    (lacks_file (g.D.Disk.seen c.look_at.new.disk).told (folder_of c.args.place.now) dir directory name (archive_name c.args.cluster.now c.args.place.now c.args.stamp c.args.index c.args.bytes.now asked) (lacks false))
+    (lacks_file (g.D.Disk.seen c.look_at.new.disk).told (folder_of c.args.place.now) dir directory name (archive_name c.args.cluster.now c.args.place.now c.args.stamp c.args.index c.args.bytes.now due.0) (due.2 false))
 
 pub returns-in_err-store-clause-handles : goal.returns-in_err-store-clause-handles
 returns-in_err-store-clause-handles g c =
@@ -104,11 +64,10 @@ returns-in_err-store-clause-handles g c =
     let place = c.args.place.now in
     let a = c.args.disk.now in
     let b = c.look_at.new.disk in
-    let asked : IsArchiveOf c.args.cluster.now place c.args.stamp c.args.index c.args.bytes.now = record { archive = c.in-Ok._archive; spelled = c.in-Ok.ensures.found.0; asked = c.in-Ok.ensures.found.1 } in
-    let lacks = entry_none c.entry.result _ _ (sym c.if-is_some.ensures) c.entry.ensures in
+    let due = c.in_default.ensures in
     let within = told_each (g.D.Disk.seen a).told (λ (folder : List ℕ) s. size_of (s.folder folder) ≤ s.used) (g.met.D.Disk.within a) in
     let reason = c.in_err-store.field-0.0 in
-    rw (p.1, p.2) (inr (stored_refused c.args.stamp c.args.index c.in_ok-looked.looked.dir c.in_default.ensures lacks c.args.cluster.now place c.args.bytes.now asked g.D.Disk.seen g.D.Disk.left_since a b c.store.new.disk
+    rw (p.1, p.2) (inr (stored_refused c.args.stamp c.args.index c.in_ok-looked.looked.dir due.1 due.2 c.args.cluster.now place c.args.bytes.now due.0 g.D.Disk.seen g.D.Disk.left_since a b c.store.new.disk
     c.in_ok-looked.ensures.directory within c.in_ok-looked.ensures.runs reason (λ need free is. c.in_err-store.ensures.full need free (ap (λ (r : DiskRefusal). err r) is)) (c.in_err-store.ensures.overfull reason refl)
     (subst (λ (folder : List ℕ). Runs g.D.Disk.seen g.D.Disk.left_since (store_calls folder (plain_text c.args.stamp c.args.index) c.args.bytes.now) (Some reason) b c.store.new.disk) (c.deref.ensures ∙ c.in_ok-looked.ensures.folder) c.in_err-store.ensures.runs)
     (c.in_err-store.ensures.early reason refl)))
@@ -125,10 +84,9 @@ returns-clause-handles g c =
     let place = c.args.place.now in
     let a = c.args.disk.now in
     let b = c.look_at.new.disk in
-    let asked : IsArchiveOf c.args.cluster.now place c.args.stamp c.args.index c.args.bytes.now = record { archive = c.in-Ok._archive; spelled = c.in-Ok.ensures.found.0; asked = c.in-Ok.ensures.found.1 } in
-    let lacks = entry_none c.entry.result _ _ (sym c.if-is_some.ensures) c.entry.ensures in
+    let due = c.in_default.ensures in
     let within = told_each (g.D.Disk.seen a).told (λ (folder : List ℕ) s. size_of (s.folder folder) ≤ s.used) (g.met.D.Disk.within a) in
-    inr (stored c.args.stamp c.args.index c.in_ok-looked.looked.dir c.in_default.ensures lacks c.args.cluster.now place c.args.bytes.now asked g.D.Disk.seen g.D.Disk.left_since a b c.store.new.disk
+    inr (stored c.args.stamp c.args.index c.in_ok-looked.looked.dir due.1 due.2 c.args.cluster.now place c.args.bytes.now due.0 g.D.Disk.seen g.D.Disk.left_since a b c.store.new.disk
     c.in_ok-looked.ensures.directory within c.in_ok-looked.ensures.runs c.in_ok-store.ensures.fits
     (subst (λ (folder : List ℕ). Runs g.D.Disk.seen g.D.Disk.left_since (store_calls folder (plain_text c.args.stamp c.args.index) c.args.bytes.now) None b c.store.new.disk) (c.deref.ensures ∙ c.in_ok-looked.ensures.folder) c.in_ok-store.ensures.runs))
 
@@ -140,10 +98,10 @@ returns-clause-order g c = λ primary floor order.
     let b = c.look_at.new.disk in
     let new = c.store.new.disk in
     let made = Data c.args.stamp c.args.index false in
-    let lacks = entry_none c.entry.result _ _ (sym c.if-is_some.ensures) c.entry.ensures in
+    let due = c.in_default.ensures in
     let spelled = c.deref.ensures ∙ c.in_ok-looked.ensures.folder in
     let looked = order_looked g.D.Disk.seen g.D.Disk.left_since folder g.D.Disk.tells primary floor a b (g.met.D.Disk.telling a) (g.met.D.Disk.telling b) c.in_ok-looked.ensures.kept order in
-    stays_stored c.args.stamp c.args.index dir c.in_default.ensures lacks g.D.Disk.seen g.D.Disk.tells folder b new (g.met.D.Disk.telling b) (g.met.D.Disk.telling new)
+    stays_stored c.args.stamp c.args.index dir due.1 due.2 g.D.Disk.seen g.D.Disk.tells folder b new (g.met.D.Disk.telling b) (g.met.D.Disk.telling new)
     (directory_looked g.D.Disk.seen g.D.Disk.left_since folder dir a b c.in_ok-looked.ensures.runs c.in_ok-looked.ensures.directory)
     (subst (λ (f : List ℕ). IfBothTold (g.D.Disk.seen b) (g.D.Disk.seen new) f (MakesName made)) spelled c.in_ok-store.ensures.directory)
     (subst (λ (f : List ℕ). IfBothTold (g.D.Disk.seen b) (g.D.Disk.seen new) f IsMadeStable) spelled c.in_ok-store.ensures.stable)
