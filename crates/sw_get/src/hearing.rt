@@ -7,7 +7,7 @@ ghost use Rattle.sw_get.specs.Round.{HasObject};
 use crate::round::Round;
 use std::alloc::Global;
 use sw_archive::Archive;
-use sw_message::{Foreign, Miss, Reply, Spoil, Target, Unread, read_named};
+use sw_message::{Foreign, Miss, Reply, Spoil, Target, check_named};
 use sw_types::{Bytes, Name, NoMemory, Policy, Stamp};
 
 impl Round {
@@ -70,10 +70,12 @@ impl Round {
         ensures object { HasObject policy.now.k self.old → IfOk result (λ _. HasObject policy.now.k self.new) }
         ensures refused { OnErr result (self.new ≡ self.old) }
     {
-        match read_named(alloc, policy, name, stamp, source.index, bytes.as_slice()) {
-            Ok(archive) => self.bring(alloc, policy, source, archive),
-            Err(Unread::Spoiled(spoil)) => self.miss(source, Miss::Spoiled(spoil)),
-            Err(Unread::NoMemory) => Err(NoMemory),
+        match check_named(policy, name, stamp, source.index, bytes.as_slice()) {
+            Ok(spelled) => {
+                let archive = spelled.archive(alloc)?;
+                self.bring(alloc, policy, source, archive)
+            }
+            Err(spoil) => self.miss(source, Miss::Spoiled(spoil)),
         }
     }
 

@@ -17,7 +17,7 @@ use std::marker::Model;
 use std::mem::replace;
 use sw_hashdir::Entry;
 use sw_hashpath::Place;
-use sw_message::{Msg, Reply, Sent, Spoil, Tickets, Unread, read_asked};
+use sw_message::{Msg, Reply, Sent, Spoil, Tickets, check_asked};
 use sw_ring::Cluster;
 use sw_types::{NoMemory, Policy};
 
@@ -167,7 +167,7 @@ fn take_in(is_open: bool, unread: &mut Option<Option<Reply>>, answer: Option<Rep
     }
 }
 
-// Reads the answer that was taken, if there is one.
+// Reads the answer that was taken, if there is one. Memory is wanted for the first answer alone.
 fn read_answer(
     alloc: Global,
     cluster: &Cluster,
@@ -180,6 +180,7 @@ fn read_answer(
     ensures leads { OnOk result (MatchOption unread.old (status.new ≡ status.old)
         (λ answer. ends status.old ≡ false → Leads (record { cluster = cluster.now; device = device; place = place.now }) status.old answer status.new)) }
     ensures refused { OnErr result ((status.new ≡ status.old) × (unread.new ≡ unread.old)) }
+    ensures memory { OnErr result (status.old ≡ Status.Starts) }
 {
     let Some(answer) = &*unread else {
         return Ok(());
@@ -191,7 +192,7 @@ fn read_answer(
             *unread = None;
             return Ok(());
         }
-        Status::Treats(course) => spoil_of(alloc, cluster, place, course, answer)?,
+        Status::Treats(course) => spoil_of(cluster, place, course, answer),
         Status::Ends(_) => None,
     };
     if let Some(answer) = replace(unread, None) {
@@ -225,21 +226,19 @@ fn first_status(
 
 // Why bytes that were fetched are not the archive of the place and the entry, where they are not.
 fn spoil_of(
-    alloc: Global,
     cluster: &Cluster,
     place: &Place,
     course: &Course,
     answer: &Option<Reply>,
-) -> Result<Option<Spoil>, NoMemory>
-    ensures { IfOk result (λ spoil. IsChecked cluster.now place.now course.now answer.now spoil) }
+) -> Option<Spoil>
+    ensures { IsChecked cluster.now place.now course.now answer.now result }
 {
     let (Treatment::Fetch, Some(Reply::Fragment(bytes))) = (&course.treatment, answer) else {
-        return Ok(None);
+        return None;
     };
     let Entry { stamp, index, .. } = course.entry;
-    match read_asked(alloc, cluster, place, stamp, index, bytes.as_slice()) {
-        Ok(_) => Ok(None),
-        Err(Unread::Spoiled(spoil)) => Ok(Some(spoil)),
-        Err(Unread::NoMemory) => Err(NoMemory),
+    match check_asked(cluster, place, stamp, index, bytes.as_slice()) {
+        Ok(_) => None,
+        Err(spoil) => Some(spoil),
     }
 }

@@ -16,7 +16,7 @@ use std::collections::VecDeque;
 use sw_archive::Archive;
 use sw_gather::has_target;
 use sw_hashpath::Place;
-use sw_message::{Foreign, Miss, Reply, Spoil, Target, Unread, read_asked};
+use sw_message::{Foreign, Miss, Reply, Spoil, Target, check_asked};
 use sw_ring::Cluster;
 use sw_types::{Bytes, NoMemory, Policy};
 
@@ -77,17 +77,12 @@ impl Repair {
             × (self.new ≡ fetched self.old source meaning) × (due.new.items ≡ due.old.items ++ due_fetched cluster.now.policy.k self.old source meaning)) }
         ensures refused { OnErr result ((self.new ≡ self.old) × (due.new.items ≡ due.old.items)) }
     {
-        match read_asked(
-            alloc,
-            cluster,
-            place,
-            self.stamp,
-            source.index,
-            bytes.as_slice(),
-        ) {
-            Ok(archive) => self.bring(alloc, cluster.policy(), source, archive, due),
-            Err(Unread::Spoiled(spoil)) => self.lose(source, Miss::Spoiled(spoil), due),
-            Err(Unread::NoMemory) => Err(NoMemory),
+        match check_asked(cluster, place, self.stamp, source.index, bytes.as_slice()) {
+            Ok(spelled) => {
+                let archive = spelled.archive(alloc)?;
+                self.bring(alloc, cluster.policy(), source, archive, due)
+            }
+            Err(spoil) => self.lose(source, Miss::Spoiled(spoil), due),
         }
     }
 
