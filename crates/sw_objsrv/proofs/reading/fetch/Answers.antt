@@ -1,11 +1,10 @@
-use Rattle.std.proofs.Common.{◌≡◌, ℕ, List, inl, inr, refl, ap, subst, ◌∙◌}
+use Rattle.std.proofs.Common.{ℕ, List, inl, inr, refl, subst, ◌∙◌}
 use Rattle.std.proofs.lemmas.Result.{err_from_is_err_and}
 use Rattle.sw_hashpath.specs.Place.{folder_of}
 use Rattle.sw_hashpath.specs.declared.file_name.FileName.TheVariants.{Data}
 use Rattle.sw_message.specs.Spoil.{IsArchiveOf, IsSpoil}
 use Rattle.sw_message.specs.Table.{HandlesFetch}
 use Rattle.sw_message.specs.declared.reply.Reply.TheVariants.{Fragment, Gone, Spoiled}
-use Rattle.sw_message.specs.declared.spoil.Spoil.{Spoil}
 use Rattle.sw_objsrv.proofs.AfterLook.{directory_looked, handles_at_once, has_file, keeps_after}
 use Rattle.sw_objsrv.proofs.Fetched.{fetched, stops_read}
 use Rattle.sw_hashdir.specs.Laws.{entry_there}
@@ -43,8 +42,8 @@ returns-in-Ok-clause-handles g c =
     c.in_ok-looked.ensures.directory c.in_ok-looked.ensures.runs c.deref.result.now (c.deref.ensures ∙ c.in_ok-looked.ensures.folder) c.in_ok-bytes.bytes c.in_ok-bytes.ensures.bytes c.in_ok-bytes.ensures.runs
     (Fragment c.in_ok-bytes.bytes) (inl (subst (IsArchiveOf c.args.cluster.now place c.args.stamp c.args.index) c.as_slice.ensures archive, refl))))
 
-pub returns-in-Err-clause-handles : goal.returns-in-Err-clause-handles
-returns-in-Err-clause-handles g c =
+pub returns-clause-handles : goal.returns-clause-handles
+returns-clause-handles g c =
     let entry = c.in-Some in
     let place = c.args.place.now in
     let spoil = c.in-Err.spoil in
@@ -69,7 +68,7 @@ returns-in-Ok-clause-kept g c =
     keeps_after g.D.Disk.seen g.D.Disk.left_since (folder_of c.args.place.now) g.D.Disk.tells c.args.disk.now c.look_at.new.disk c.fetch.new.disk (g.met.D.Disk.telling c.args.disk.now) (g.met.D.Disk.telling c.look_at.new.disk)
     c.in_ok-looked.ensures.runs c.in_ok-looked.ensures.kept c.in_ok-bytes.ensures.kept
 
-pub returns-in-Err-clause-kept : goal.returns-in-Err-clause-kept
-returns-in-Err-clause-kept g c =
+pub returns-clause-kept : goal.returns-clause-kept
+returns-clause-kept g c =
     keeps_after g.D.Disk.seen g.D.Disk.left_since (folder_of c.args.place.now) g.D.Disk.tells c.args.disk.now c.look_at.new.disk c.fetch.new.disk (g.met.D.Disk.telling c.args.disk.now) (g.met.D.Disk.telling c.look_at.new.disk)
     c.in_ok-looked.ensures.runs c.in_ok-looked.ensures.kept c.in_ok-bytes.ensures.kept
