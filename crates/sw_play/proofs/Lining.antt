@@ -20,7 +20,7 @@ module _ (before : Scripted) (event : Event) (old new : WorldModel) where
   stops_by step.NoSuchDevice faults = faults
   stops_by step.NoSuchOperation faults = faults
   stops_by step.StampsSpent faults = faults
-  stops_by step.NoMemory faults = tt
+  stops_by step.NoMemory faults = faults
 
   pub stops_event : (fault : StepFault) (stop : LineStop) → stop ≡ stop_of fault → FaultsBy event before fault old new → StopsEvent before event stop old new
   stops_event fault stop is faults = subst (λ (one : LineStop). StopsEvent before event one old new) (sym is) (stops_by fault faults)
@@ -48,4 +48,4 @@ module _ (before : Scripted) (line : List ℕ) (event : Event) (read : event_of 
   event_stop (Ok done) stops = tt
   event_stop (Err (Fault fault)) stops = inr (event, read, stops)
   event_stop (Err Spent) stops = (event, read, stops)
-  event_stop (Err NoMemory) stops = tt
+  event_stop (Err NoMemory) stops = (event, read)

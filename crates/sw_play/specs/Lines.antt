@@ -1,11 +1,11 @@
 -- What one line of a script does to a world and to the text of what is told.
-use Rattle.std.specs.Prelude.{◌≡◌, ◌⊎◌, ℕ, List, ◌++◌, Option, Some, None, Ok, Err, ⊤}
+use Rattle.std.specs.Prelude.{◌≡◌, ◌⊎◌, ℕ, List, ◌++◌, Option, Some, None, Ok, Err}
 use Rattle.sw_script.specs.Line.{event_of}
 use Rattle.sw_script.specs.declared.event.Event.{Event}
 use Rattle.sw_script.specs.declared.fault.LineFault.TheVariants.{NoDevice, NoMessage, NoOperation}
 use Rattle.sw_told.specs.Text.{told_text}
 use Rattle.sw_told.specs.declared.told.Told.{Told}
-use Rattle.sw_world.specs.Leading.{DoesIt}
+use Rattle.sw_world.specs.Leading.{DoesIt, MayBeDone}
 use Rattle.sw_world.specs.Scripted.{Scripted}
 use Rattle.sw_world.specs.Standing.{StandsFor, WorldModel}
 use Rattle.sw_world.specs.Doing.{IsSpent, event_fault}
@@ -36,15 +36,15 @@ DoesOrBlank (Some event) before left old new = TellsEvent before event left old 
 abbrev pub DoesLine : (before : Scripted) → (line : List ℕ) → (left : WorldModel) → (old new : List ℕ) → Type 0
 DoesLine before line left old new = (event : Option Event) × (event_of line ≡ Ok event) × DoesOrBlank event before left old new
 
--- an event was not done: its line is faulty, the stamps are spent, or memory was wanted
+-- an event was not done: its line is faulty, the stamps are spent, or it has neither fault and memory was wanted
 abbrev pub StopsEvent : (before : Scripted) → Event → LineStop → (old new : WorldModel) → Type 0
 StopsEvent before event (Fault fault) old new = (event_fault before event ≡ Some fault) × (new ≡ old)
 StopsEvent before event Spent old new = (event_fault before event ≡ None) × IsSpent before event × (new ≡ old)
-StopsEvent before event NoMemory old new = ⊤
+StopsEvent before event NoMemory old new = MayBeDone before event
 
--- nor was that of a line, or the line tells none
+-- nor was that of a line, or the line tells none; memory is wanted only for a line that tells one
 abbrev pub StopsLine : (before : Scripted) → List ℕ → LineStop → (old new : WorldModel) → Type 0
 StopsLine before line (Fault fault) old new =
     ((event_of line ≡ Err fault) × (new ≡ old)) ⊎ ((event : Event) × (event_of line ≡ Ok (Some event)) × StopsEvent before event (Fault fault) old new)
 StopsLine before line Spent old new = (event : Event) × (event_of line ≡ Ok (Some event)) × StopsEvent before event Spent old new
-StopsLine before line NoMemory old new = ⊤
+StopsLine before line NoMemory old new = (event : Event) × (event_of line ≡ Ok (Some event))
