@@ -5,19 +5,15 @@ use Rattle.sw_types.specs.Policy.{PolicyModel}
 use Rattle.sw_archive.specs.Archive.{ArchiveModel, IsArchive, IsSound}
 use Rattle.sw_archive.specs.Assemble.{AreTogether, IsNext}
 use Rattle.sw_archive.proofs.Archives.{one_archive}
-use Rattle.sw_archive.proofs.Faults.{no_fault, one_fault}
 use Rattle.sw_archive.proofs.Gatherings.{AreTogether-push}
 use Rattle.sw_archive.proofs.Objects.{not_other}
 use Rattle.sw_message.specs.Spoil.{IsAsked, IsSpoilOf}
 use Rattle.sw_message.specs.declared.spoil.Foreign.TheVariants as foreign
 use Rattle.sw_message.specs.declared.spoil.Spoil.{Spoil}
 use Rattle.sw_message.specs.declared.spoil.Spoil.TheVariants as spoil
-use Rattle.sw_message.proofs.Spoils.{FaultLaw, asked_or_spoil, one_spoil_of}
+use Rattle.sw_message.proofs.Spoils.{asked_or_spoil, one_spoil_of}
 use Rattle.sw_gather.specs.Gathered.{AreRight, AreWrong, Strays}
 use Rattle.sw_gather.proofs.Joins.{enough_from_k}
-
-law : FaultLaw
-law = record { not_both = no_fault; one = one_fault }
 
 -- ---- an archive is of the object of those before it, or strays, and not both
 
@@ -60,13 +56,13 @@ module _ (Named : NameModel → Type 0) (policy : PolicyModel) (stamp : ℕ) (ot
   spoilt (spoil.Foreign foreign.Object) is = inl (refl, is.0, is.1, is.2)
 
   wanted-or-spoil : (archive : ArchiveModel) (how : Spoil) → IsWanted archive → IsSpoilOf Named policy stamp index bytes how → ⊥
-  wanted-or-spoil archive how is spoils = asked_or_spoil law Named policy stamp index bytes archive is.0 is.1 how spoils
+  wanted-or-spoil archive how is spoils = asked_or_spoil Named policy stamp index bytes archive is.0 is.1 how spoils
 
   one-spoil : (a b : Spoil) → Spoilt a → Spoilt b → a ≡ b
   one-spoil a b (inl x) (inl y) = x.0 ∙ sym y.0
   one-spoil a b (inl x) (inr y) = absurd (wanted-or-spoil x.1 b x.2 y)
   one-spoil a b (inr x) (inl y) = absurd (wanted-or-spoil y.1 a y.2 x)
-  one-spoil a b (inr x) (inr y) = one_spoil_of law Named policy stamp index bytes a b x y
+  one-spoil a b (inr x) (inr y) = one_spoil_of Named policy stamp index bytes a b x y
 
   module _ (together : AreTogether others) where
     brings-or-spoils : (archive : ArchiveModel) (how : Spoil) → Reads (Brings archive) → Spoilt how → ⊥

@@ -5,14 +5,13 @@ use Rattle.std.proofs.lemmas.Bool.{cases_Bool, cond-false, cond-true}
 use Rattle.std.proofs.lemmas.Option.{none-some, same_Some}
 use Rattle.sw_hashdir.specs.declared.entry.Entry.{Entry}
 use Rattle.sw_hashpath.specs.Place.{PlaceModel}
-use Rattle.sw_archive.proofs.Faults.{no_fault, one_fault}
 use Rattle.sw_ring.specs.Cluster.{ClusterModel}
 use Rattle.sw_message.specs.Transcript.{Gave, Hand, IsRun, Next, Step, Told, given, is_empty, is_not, is_waiting, open_at, opens}
 use Rattle.sw_message.specs.declared.reply.Reply.{Reply}
 use Rattle.sw_message.specs.declared.reply.Reply.TheVariants as reply
 use Rattle.sw_message.specs.declared.sent.Sent.{Sent}
 use Rattle.sw_message.specs.declared.spoil.Spoil.{Spoil}
-use Rattle.sw_message.proofs.Spoils.{FaultLaw, asked_or_spoiled, one_spoil}
+use Rattle.sw_message.proofs.Spoils.{asked_or_spoiled, one_spoil}
 use Rattle.sw_recon.specs.Revert.{Begun, IsEnd, IsNext, IsSpoilt, IsStatus, Leads, after_by, next_at, next_or, total}
 use Rattle.sw_recon.specs.Standing.{ends}
 use Rattle.sw_recon.specs.declared.revert_end.RevertEnd.{RevertEnd}
@@ -21,17 +20,14 @@ use Rattle.sw_recon.specs.declared.status.Status.TheVariants.{Ends, Starts, Trea
 use Rattle.sw_recon.specs.declared.treatment.Treatment.{Treatment}
 use Rattle.sw_recon.specs.declared.treatment.Treatment.TheVariants.{Fetch}
 
-law : FaultLaw
-law = record { not_both = no_fault; one = one_fault }
-
 -- ---- one status
 
 module _ (cluster : ClusterModel) (place : PlaceModel) (entry : Entry) where
   one_spoilt : (bytes : List ℕ) (a b : Option Spoil) → IsSpoilt cluster place entry Fetch (Some (reply.Fragment bytes)) a → IsSpoilt cluster place entry Fetch (Some (reply.Fragment bytes)) b → a ≡ b
   one_spoilt bytes None None x y = refl
-  one_spoilt bytes None (Some b) x y = absurd (asked_or_spoiled law cluster place entry.stamp entry.index bytes b x y)
-  one_spoilt bytes (Some a) None x y = absurd (asked_or_spoiled law cluster place entry.stamp entry.index bytes a y x)
-  one_spoilt bytes (Some a) (Some b) x y = ap (λ spoil. Some spoil) (one_spoil law cluster place entry.stamp entry.index bytes a b x y)
+  one_spoilt bytes None (Some b) x y = absurd (asked_or_spoiled cluster place entry.stamp entry.index bytes b x y)
+  one_spoilt bytes (Some a) None x y = absurd (asked_or_spoiled cluster place entry.stamp entry.index bytes a y x)
+  one_spoilt bytes (Some a) (Some b) x y = ap (λ spoil. Some spoil) (one_spoil cluster place entry.stamp entry.index bytes a b x y)
 
   one_check : (treatment : Treatment) (answer : Option Reply) (a b : Option Spoil) → IsSpoilt cluster place entry treatment answer a → IsSpoilt cluster place entry treatment answer b → a ≡ b
   one_check Fetch (Some (reply.Fragment bytes)) a b x y = one_spoilt bytes a b x y
