@@ -2,14 +2,11 @@
 use Rattle.std.proofs.Common.{◌≡◌, ℕ, List, [], ◌∷◌, ◌++◌, Some, Result, Ok, Err, refl, sym, ap, subst}
 use Rattle.std.specs.Prelude.{IfOk}
 use Rattle.sw_types.specs.declared.memory.NoMemory.{NoMemory}
-use Rattle.sw_words.specs.Memory.{UnlessMemory}
 use Rattle.sw_hashdir.specs.Listing.{ListingModel}
 use Rattle.sw_archive.specs.Archive.{ArchiveModel}
 use Rattle.sw_archive.specs.Assemble.{IsNext}
 use Rattle.sw_message.specs.Miss.{miss_of}
 use Rattle.sw_message.specs.Spoil.{IsNamed, IsSpoilOf}
-use Rattle.sw_message.specs.declared.checking.Unread.{Unread}
-use Rattle.sw_message.specs.declared.checking.Unread.TheVariants.{NoMemory as WantOfMemory, Spoiled}
 use Rattle.sw_message.specs.declared.miss.Miss.{Miss}
 use Rattle.sw_message.specs.declared.miss.Miss.TheVariants as miss
 use Rattle.sw_message.specs.declared.reply.Reply.{Reply}
@@ -75,14 +72,6 @@ module _ (wanted : Wanted) (others : List ArchiveModel) (index : ℕ) (bytes : L
   read_joined archive is (Misses miss.Odd) joined = absurd joined
   read_joined archive is (Lists listing) joined = absurd joined
   read_joined archive is (Lacks listing) joined = absurd joined
-
-  pub spoils : (unread : Unread) (spoil : Spoil) → unread ≡ Spoiled spoil
-      → UnlessMemory WantOfMemory unread ((found : Spoil) × (unread ≡ Spoiled found) × IsSpoilOf (IsNamed wanted.name) wanted.policy wanted.stamp index bytes found)
-      → IsRead wanted others index bytes (Misses (miss.Spoiled spoil))
-  spoils unread spoil is refused =
-      let found = refused (λ none. cc) in
-      let same : found.0 ≡ spoil = let other = found.1 in cc in
-      read_spoil spoil (subst (λ one. IsSpoilOf (IsNamed wanted.name) wanted.policy wanted.stamp index bytes one) same found.2)
 
 -- ---- what other replies mean
 

@@ -1,7 +1,6 @@
 -- What the answers of sources mean, and what a repair then knows.
 use Rattle.std.proofs.Common.{◌≡◌, ℕ, List, [], ◌∷◌, ◌++◌, Some, Result, Ok, Err, length, refl, sym, ap, subst, ◌∙◌}
 use Rattle.std.specs.Prelude.{IfOk, OnOk}
-use Rattle.sw_words.specs.Memory.{UnlessMemory}
 use Rattle.sw_types.specs.Policy.{PolicyModel}
 use Rattle.sw_types.specs.declared.memory.NoMemory.{NoMemory}
 use Rattle.sw_hashdir.specs.Listing.{ListingModel}
@@ -11,8 +10,6 @@ use Rattle.sw_archive.specs.Assemble.{IsNext, IsTold}
 use Rattle.sw_ring.specs.Cluster.{ClusterModel}
 use Rattle.sw_message.specs.Miss.{miss_of}
 use Rattle.sw_message.specs.Spoil.{IsSpoil}
-use Rattle.sw_message.specs.declared.checking.Unread.{Unread}
-use Rattle.sw_message.specs.declared.checking.Unread.TheVariants.{NoMemory as WantOfMemory, Spoiled}
 use Rattle.sw_message.specs.declared.miss.Miss.{Miss}
 use Rattle.sw_message.specs.declared.miss.Miss.TheVariants as miss
 use Rattle.sw_message.specs.declared.reply.Reply.{Reply}
@@ -45,21 +42,13 @@ weaker (Err refused) P Q k repair after source before due follows is = tt
 -- ---- what bytes mean
 
 module _ (cluster : ClusterModel) (place : PlaceModel) (repair : Repair) (index : ℕ) (bytes : List ℕ) where
-  read_spoil : (spoil : Spoil) → IsSpoil cluster place repair.stamp index bytes spoil → IsRead cluster place repair index bytes (Loses (miss.Spoiled spoil))
+  pub read_spoil : (spoil : Spoil) → IsSpoil cluster place repair.stamp index bytes spoil → IsRead cluster place repair index bytes (Loses (miss.Spoiled spoil))
   read_spoil (spoil.Fault fault) is = is
   read_spoil (spoil.Foreign foreign.Name) is = is
   read_spoil (spoil.Foreign foreign.Stamp) is = is
   read_spoil (spoil.Foreign foreign.Index) is = is
   read_spoil (spoil.Foreign foreign.Code) is = is
   read_spoil (spoil.Foreign foreign.Object) is = absurd is.2
-
-  pub spoils : (unread : Unread) (spoil : Spoil) → unread ≡ Spoiled spoil
-      → UnlessMemory WantOfMemory unread ((found : Spoil) × (unread ≡ Spoiled found) × IsSpoil cluster place repair.stamp index bytes found)
-      → IsRead cluster place repair index bytes (Loses (miss.Spoiled spoil))
-  spoils unread spoil is refused =
-      let found = refused (λ none. cc) in
-      let same : found.0 ≡ spoil = let other = found.1 in cc in
-      read_spoil spoil (subst (λ one. IsSpoil cluster place repair.stamp index bytes one) same found.2)
 
   pub read_joined : (archive : ArchiveModel) → IsWanted cluster place repair.stamp index bytes archive → (meaning : Meaning) → IsJoined cluster.policy repair archive meaning
       → IsRead cluster place repair index bytes meaning
