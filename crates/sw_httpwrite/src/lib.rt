@@ -6,6 +6,8 @@
 
 mod answer;
 mod head;
+#[cfg(test)]
+mod tests;
 mod write;
 
 pub use crate::answer::Answer;

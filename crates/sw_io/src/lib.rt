@@ -8,19 +8,33 @@
 mod adapters;
 mod clock;
 mod conn;
+mod doors;
+#[cfg(test)]
+mod doors_tests;
 mod fuse;
+mod gate;
+mod host_clock;
 mod mem_conn;
+mod mem_doors;
 mod memory;
 mod sink;
 mod source;
 mod stock;
+mod tcp_conn;
+mod tcp_doors;
 #[cfg(test)]
 mod tests;
 
 pub use crate::adapters::{ReadSource, WriteSink};
 pub use crate::clock::{Clock, MemClock};
 pub use crate::conn::Conn;
+pub use crate::doors::{DoorFailed, Doors};
+pub use crate::gate::{Gate, GatePoint, OpenGate};
+pub use crate::host_clock::HostClock;
 pub use crate::mem_conn::MemConn;
+pub use crate::mem_doors::MemDoors;
 pub use crate::memory::{MemSink, MemSource};
 pub use crate::sink::{Sink, WriteFailed, write_all};
 pub use crate::source::{ReadError, ReadFailed, Source, read_up_to};
+pub use crate::tcp_conn::TcpConn;
+pub use crate::tcp_doors::TcpDoors;

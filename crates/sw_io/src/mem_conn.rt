@@ -71,6 +71,13 @@ impl MemConn {
         &self.kept
     }
 
+    /// How many reads and writes have failed.
+    pub fn faults(&self) -> u64
+        ensures { result ≡ self.now.faults }
+    {
+        self.fuse.faults
+    }
+
     /// Whether it was closed.
     pub fn is_closed(&self) -> bool
         ensures { result ≡ self.now.is_closed }
