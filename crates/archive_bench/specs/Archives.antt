@@ -1,5 +1,5 @@
 -- The archives of an object that is put.
-use Rattle.std.specs.Prelude.{ℕ, List, map}
+use Rattle.std.specs.Prelude.{ℕ, List, length, map}
 use Rattle.std.specs.List.{range_with_len}
 use Rattle.sw_archive.specs.Archive.{ArchiveModel}
 use Rattle.sw_archive.specs.Put.{put_archive, put_fields}
@@ -15,6 +15,10 @@ fields_at put index = put_fields put.policy put.stamp put.name put.object index
 -- the first so many archives
 abbrev pub archives_of : Put → ℕ → List (List ℕ)
 archives_of put count = map (archive_at put) (range_with_len 0 count)
+
+-- their lengths
+abbrev pub lengths_of : Put → ℕ → List ℕ
+lengths_of put count = map (λ index. length (archive_at put index)) (range_with_len 0 count)
 
 -- the fields of so many archives, from an index on
 abbrev pub fields_from : Put → ℕ → ℕ → List ArchiveModel

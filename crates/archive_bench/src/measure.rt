@@ -1,4 +1,4 @@
-//! What archives cost: all of an object made, k of them read, and the object decoded.
+//! What archives cost: all of an object made, at once and as a put makes them, k of them read, and the object decoded.
 
 ghost use Rattle.std.specs.Prelude.{◌≡◌, ◌+◌, ◌≤◌, drop, length, take};
 ghost use Rattle.sw_types.specs.Object.{greatest_body};
@@ -14,8 +14,8 @@ use std::time::{CpuClock, Duration};
 use sw_cauchy::Code;
 use sw_types::Bytes;
 
-// The greatest number of bytes of a segment: the usual one.
-const SEGMENT: u32 = 1 << 20;
+/// The greatest number of bytes of a segment: the usual one.
+pub const SEGMENT: u32 = 1 << 20;
 
 /// Measures the steps of a code, each for about so many seconds, and once at least. Prints rows for bodies of 64 KiB, 1 MiB
 /// and 16 MiB.
@@ -39,6 +39,8 @@ fn measure_body(
     let archives = put.archives(rt.alloc())?;
     let make = cost_to_make(rt, &put, &archives, seconds)?;
     print_row(rt, code, length, "make", make)?;
+    let make_as_put = cost_as_put(rt, &put, &archives, make.field, seconds)?;
+    print_row(rt, code, length, "make as a put", make_as_put)?;
     let (read, decode) = costs_from(rt, &put, &archives, 0, seconds)?;
     print_row(rt, code, length, "read first", read)?;
     print_row(rt, code, length, "decode first", decode)?;
@@ -65,6 +67,25 @@ fn cost_to_make(
         field: mean_time(rt, seconds, || {
             Ok(encode(alloc, code, body, SEGMENT as usize)?)
         })?,
+    })
+}
+
+// What it costs to make all archives as a put does. They are hashed side by side, and their products are computed twice:
+// for the MD5s, and for the archives. How long they take once is known.
+fn cost_as_put(
+    rt: &(impl CpuClock + AllocGlobal),
+    put: &Put,
+    archives: &[Bytes],
+    field: Duration,
+    seconds: u64,
+) -> Result<Cost>
+    requires { archives.now ≡ archives_of put.now (put.now.policy.k + put.now.policy.m) }
+{
+    let alloc = rt.alloc();
+    Ok(Cost {
+        whole: mean_time(rt, seconds, || Ok(put.make_each(alloc)?))?,
+        hashing: mean_time(rt, seconds, || Ok(put.digests(alloc, archives)?))?,
+        field: field.saturating_add(field),
     })
 }
 

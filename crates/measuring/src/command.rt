@@ -32,11 +32,18 @@ pub fn command_of(words: &[String]) -> Option<Command>
     None
 }
 
-/// The command of the command line: none where the line is faulty, as one is whose words are not UTF-8.
-pub fn read_command(rt: &(impl Env + AllocGlobal)) -> Result<Option<Command>> {
+/// The words of the command line, the program's name first: none where they are not UTF-8.
+pub fn read_words(rt: &(impl Env + AllocGlobal)) -> Result<Option<Vec<String>>> {
     let Ok(words) = env::args(rt) else {
         return Ok(None);
     };
-    let words: Vec<String> = words.collect(rt.alloc())?;
+    Ok(Some(words.collect(rt.alloc())?))
+}
+
+/// The command of the command line: none where the line is faulty, as one is whose words are not UTF-8.
+pub fn read_command(rt: &(impl Env + AllocGlobal)) -> Result<Option<Command>> {
+    let Some(words) = read_words(rt)? else {
+        return Ok(None);
+    };
     Ok(command_of(&words))
 }

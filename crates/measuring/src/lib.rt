@@ -7,7 +7,7 @@ mod patterns;
 mod rate;
 mod timing;
 
-pub use crate::command::{Command, command_of, read_command};
+pub use crate::command::{Command, command_of, read_command, read_words};
 pub use crate::gathering::gather_from;
 pub use crate::patterns::pattern;
 pub use crate::rate::Rate;

@@ -1,17 +1,9 @@
-use Rattle.std.proofs.Common.{◌≡◌, List, [], ◌∷◌, length, map, drop, get_or, codes, string_bytes, sym, ap₂, ◌∙◌, arith}
+use Rattle.std.proofs.Common.{◌≡◌, [], ◌∷◌, codes, string_bytes, sym, ap₂, ◌∙◌}
 use Rattle.std.specs.Fmt.{decimal}
 use Rattle.std.proofs.lemmas.Bool.Decides.{Decides-eqb}
 use Rattle.std.proofs.lemmas.Slice.Eq.{slice_eq-Decides}
+use Rattle.measuring.proofs.Words.{last_two}
 use Rattle.measuring.proofs.command.command_of.Goals as goal
-
--- what is made of the second and the third of three
-last_two : {A : Type 0} {B : Type 0} (f : A → B) (xs : List A) (second third : A) → length xs ≡ 3 → second ≡ get_or xs 1 second → third ≡ get_or xs 2 third
-    → drop 1 (map f xs) ≡ f second ∷ f third ∷ []
-last_two f [] second third long at_second at_third = absurd (omega arith)
-last_two f (x ∷ []) second third long at_second at_third = absurd (omega arith)
-last_two f (x ∷ y ∷ []) second third long at_second at_third = absurd (omega arith)
-last_two f (x ∷ y ∷ z ∷ []) second third long at_second at_third = ap₂ (λ a b. f a ∷ f b ∷ []) (sym at_second) (sym at_third)
-last_two f (x ∷ y ∷ z ∷ more ∷ xs) second third long at_second at_third = absurd (omega arith)
 
 pub returns-then-eq-clause-found : goal.returns-then-eq-clause-found
 returns-then-eq-clause-found c =
