@@ -22,7 +22,8 @@ use Rattle.sw_message.specs.declared.reply.Reply.{Reply}
 use Rattle.sw_message.specs.declared.reply.Reply.TheVariants.{Fragment, Spoiled}
 use Rattle.sw_message.specs.declared.spoil.Spoil.{Spoil}
 use Rattle.sw_message.specs.declared.message.Msg.TheVariants as message
-use Rattle.sw_objsrv.specs.Handling.{Follows, IsAnswer, StopsReading, StopsAt, StopsBefore}
+use Rattle.sw_objsrv.specs.Handling.{Follows, IsAnswer, StopsReading, StopsAt}
+use Rattle.sw_objsrv.specs.Reading.{IsReplied}
 use Rattle.sw_objsrv.proofs.AfterLook.{files_before}
 use Rattle.sw_objsrv.proofs.Found.{entry_at, found_in, is_found, read_is}
 use Rattle.sw_diskfile.proofs.Steps.{changes_by}
@@ -33,11 +34,7 @@ abbrev HasContent : (text bytes : List ℕ) → List File → Type 0
 HasContent text bytes files = (content : Content) × (content_at text files ≡ Some content) × (content.bytes ≡ bytes)
 
 module _ (cluster : ClusterModel) (place : PlaceModel) (stamp index : ℕ) where
-  -- what bytes are answered with
-  abbrev pub IsReplied : List ℕ → Reply → Type 0
-  IsReplied bytes reply = (IsArchiveOf cluster place stamp index bytes × (reply ≡ Fragment bytes)) ⊎ ((spoil : Spoil) × IsSpoil cluster place stamp index bytes spoil × (reply ≡ Spoiled spoil))
-
-  is_answer : (bytes : List ℕ) (reply : Reply) → IsReplied bytes reply → IsAnswer reply
+  is_answer : (bytes : List ℕ) (reply : Reply) → IsReplied cluster place stamp index bytes reply → IsAnswer reply
   is_answer bytes reply (inl asked) = subst IsAnswer (sym asked.1) tt
   is_answer bytes reply (inr spoiled) = subst IsAnswer (sym spoiled.2) tt
 
@@ -75,7 +72,7 @@ module _ (cluster : ClusterModel) (place : PlaceModel) (stamp index : ℕ) where
           (λ s has. record { content = has.0; there = has.1; bytes_are = has.2 }))
 
       -- the row of the table
-      row : (reply : Reply) → IsReplied bytes reply → HandlesFetch cluster place stamp index found (answers_after (folder_of place) (reads (folder_of place) name) [] reply)
+      row : (reply : Reply) → IsReplied cluster place stamp index bytes reply → HandlesFetch cluster place stamp index found (answers_after (folder_of place) (reads (folder_of place) name) [] reply)
       row reply (inl asked) =
           inr (entry.durable, there_is, inl (subst (IsArchiveOf cluster place stamp index) (sym bytes_found) asked.0, ap (answers_after (folder_of place) (reads (folder_of place) name) []) (asked.1 ∙ ap (λ bs. Fragment bs) (sym bytes_found))))
       row reply (inr spoiled) =
@@ -86,7 +83,7 @@ module _ (cluster : ClusterModel) (place : PlaceModel) (stamp index : ℕ) where
           (subst (λ (n : FileName). Runs seen left_since (reads (folder_of place) n) None b c) named
           (subst (λ (f : List ℕ). Runs seen left_since (reads f (Data entry.stamp entry.index entry.durable)) None b c) spelled read))
 
-      pub fetched : (reply : Reply) → IsReplied bytes reply → Follows seen left_since (folder_of place) (HandlesFetch cluster place stamp index) (Ok reply) a c
+      pub fetched : (reply : Reply) → IsReplied cluster place stamp index bytes reply → Follows seen left_since (folder_of place) (HandlesFetch cluster place stamp index) (Ok reply) a c
       fetched reply replied = record {
         found = found;
         is_found = is_found (seen a).told (folder_of place) names bytes 0 directory;
@@ -107,7 +104,7 @@ module _ (cluster : ClusterModel) (place : PlaceModel) (stamp index : ℕ) where
       pub stops_read : (reason : DiskRefusal) → IsNotFull reason → Runs seen left_since (reads folder (Data entry.stamp entry.index entry.durable)) (Some reason) b c → StopsReading seen left_since (message.Fetch place stamp index) (Err reason) a c
       stops_read Failed other read = (names, directory, entry.durable, there_is, read_runs (Some Failed) read)
       stops_read (Full need free) other read = absurd other
-      stops_read NoMemory other read = (names, directory, entry.durable, there_is, read_runs (Some NoMemory) read)
+      stops_read NoMemory other read = (names, directory, entry.durable, there_is, inl (read_runs (Some NoMemory) read))
 
 -- ---- reads that were stopped
 
@@ -124,19 +121,11 @@ module _ {D : Type 0} (seen : D → Seen) (left_since : D → Past) (a b : D) wh
   no_answer (message.Suffixes part) reply read = read
   no_answer (message.Places part) reply read = read
 
-  -- what stops before a call stops at it
-  stops_at : (calls : List Call) (result : Result Reply DiskRefusal) → StopsBefore seen left_since calls result a b → StopsAt seen left_since calls result a b
-  stops_at calls (Ok reply) stops = stops
-  stops_at calls (Err Failed) stops = stops
-  stops_at calls (Err (Full need free)) stops = stops
-  stops_at calls (Err NoMemory) stops = inl stops
-
   -- and their calls change nothing
   pub stops_reading : (asked : Msg) (result : Result Reply DiskRefusal) → StopsReading seen left_since asked result a b
       → (calls : List Call) × ((name : List ℕ) (temporary : Option Content) → changes_by name calls temporary ≡ []) × StopsAt seen left_since calls result a b
   stops_reading (message.Fetch place stamp index) result read =
-      let calls : List Call = ListNames (folder_of place) ∷ ReadFile (folder_of place) (file_name_text (Data stamp index read.2)) ∷ [] in
-      (calls, (λ name temporary. refl), stops_at calls result read.4)
+      (ListNames (folder_of place) ∷ ReadFile (folder_of place) (file_name_text (Data stamp index read.2)) ∷ [], (λ name temporary. refl), read.4)
   stops_reading (message.PutFrag place stamp index bytes) result read = absurd read
   stops_reading (message.Commit place stamp index) result read = absurd read
   stops_reading (message.Delete place stamp) result read = absurd read

@@ -74,18 +74,11 @@ StopsAt seen left_since calls (Err refusal.NoMemory) old new = RunsUnlessMemory 
 abbrev pub StopsEarly : {D : Type 0} → (D → Seen) → (D → Past) → Call → Result Reply DiskRefusal → D → D → Type 0
 StopsEarly seen left_since first result old new = StopsAt seen left_since (first ∷ []) result old new
 
--- the last of these calls was refused, or memory was wanted before it
-abbrev pub StopsBefore : {D : Type 0} → (D → Seen) → (D → Past) → List Call → Result Reply DiskRefusal → D → D → Type 0
-StopsBefore seen left_since calls (Ok reply) old new = ⊥
-StopsBefore seen left_since calls (Err refusal.Failed) old new = Runs seen left_since calls (Some refusal.Failed) old new
-StopsBefore seen left_since calls (Err (refusal.Full need free)) old new = ⊥
-StopsBefore seen left_since calls (Err refusal.NoMemory) old new = Runs seen left_since calls (Some refusal.NoMemory) old new
-
--- an entry that was found was to be read, whatever its bytes are; what was read is answered
+-- an entry that was found was to be read, whatever its bytes are
 abbrev pub StopsReading : {D : Type 0} → (D → Seen) → (D → Past) → Msg → Result Reply DiskRefusal → D → D → Type 0
 StopsReading seen left_since (message.Fetch place stamp index) result old new =
     (names : List FileName) × IfTold (seen old).told (λ state. IsDirectoryOf (state.folder (folder_of place)) names) × (durable : Bool) × HasEntryAt names stamp index durable
-    × StopsBefore seen left_since (ListNames (folder_of place) ∷ ReadFile (folder_of place) (file_name_text (Data stamp index durable)) ∷ []) result old new
+    × StopsAt seen left_since (ListNames (folder_of place) ∷ ReadFile (folder_of place) (file_name_text (Data stamp index durable)) ∷ []) result old new
 StopsReading seen left_since other result old new = ⊥
 
 -- the folder was looked at, where it tells with what it holds, and a row of the table was done

@@ -3,4 +3,5 @@ pub mod Folder
 pub mod Handling
 pub mod Mounting
 pub mod Node
+pub mod Reading
 pub mod Storing

@@ -6,6 +6,7 @@ ghost use Rattle.sw_diskfile.specs.Changes.{Keeps};
 ghost use Rattle.sw_message.specs.Table.{HandlesAsk, HandlesFetch};
 ghost use Rattle.sw_message.specs.declared.message.Msg.TheVariants as message;
 ghost use Rattle.sw_objsrv.specs.Handling.{Handles, StopsReading};
+ghost use Rattle.sw_objsrv.specs.Reading.{IsReplied};
 
 use crate::looking::look_at;
 use std::alloc::Global;
@@ -14,7 +15,7 @@ use sw_diskfile::fetch as fetch_entry;
 use sw_hashpath::Place;
 use sw_message::{Reply, check_asked};
 use sw_ring::Cluster;
-use sw_types::Stamp;
+use sw_types::{Bytes, Stamp};
 
 /// Lists the folder of a place.
 pub(crate) fn ask<D: Disk>(alloc: Global, disk: &mut D, place: &Place) -> Result<Reply, DiskRefusal>
@@ -44,8 +45,15 @@ pub(crate) fn fetch<D: Disk>(
         return Ok(Reply::Gone(looked.dir.listing(alloc)?));
     };
     let bytes = fetch_entry(alloc, disk, &looked.folder, entry)?;
+    Ok(reply_of(cluster, place, stamp, index, bytes))
+}
+
+// The reply to bytes that were read. It takes no memory, so a spoiled archive is told.
+fn reply_of(cluster: &Cluster, place: &Place, stamp: Stamp, index: u32, bytes: Bytes) -> Reply
+    ensures { IsReplied cluster.now place.now stamp index bytes result }
+{
     match check_asked(cluster, place, stamp, index, bytes.as_slice()) {
-        Ok(_archive) => Ok(Reply::Fragment(bytes)),
-        Err(spoil) => Ok(Reply::Spoiled(spoil)),
+        Ok(_archive) => Reply::Fragment(bytes),
+        Err(spoil) => Reply::Spoiled(spoil),
     }
 }

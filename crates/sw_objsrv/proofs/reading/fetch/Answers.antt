@@ -1,10 +1,9 @@
-use Rattle.std.proofs.Common.{ℕ, List, inl, inr, refl, subst, ◌∙◌}
+use Rattle.std.proofs.Common.{inl, inr, refl, ◌∙◌}
 use Rattle.std.proofs.lemmas.Result.{err_from_is_err_and}
 use Rattle.sw_hashpath.specs.Place.{folder_of}
 use Rattle.sw_hashpath.specs.declared.file_name.FileName.TheVariants.{Data}
-use Rattle.sw_message.specs.Spoil.{IsArchiveOf, IsSpoil}
 use Rattle.sw_message.specs.Table.{HandlesFetch}
-use Rattle.sw_message.specs.declared.reply.Reply.TheVariants.{Fragment, Gone, Spoiled}
+use Rattle.sw_message.specs.declared.reply.Reply.TheVariants.{Gone}
 use Rattle.sw_objsrv.proofs.AfterLook.{directory_looked, handles_at_once, has_file, keeps_after}
 use Rattle.sw_objsrv.proofs.Fetched.{fetched, stops_read}
 use Rattle.sw_hashdir.specs.Laws.{entry_there}
@@ -33,23 +32,13 @@ fetch-requires-clause-there g c =
     rw (c.deref.ensures, c.in_ok-looked.ensures.folder)
     (has_file (g.D.Disk.seen c.look_at.new.disk).told (folder_of c.args.place.now) dir directory name (entry_there dir entry.stamp entry.index entry.durable c.in-Some.ensures.2))
 
-pub returns-in-Ok-clause-handles : goal.returns-in-Ok-clause-handles
-returns-in-Ok-clause-handles g c =
-    let entry = c.in-Some in
-    let place = c.args.place.now in
-    let archive : IsArchiveOf c.args.cluster.now place c.args.stamp c.args.index c.as_slice.result.now = record { archive = c.in-Ok._archive; spelled = c.in-Ok.ensures.found.0; asked = c.in-Ok.ensures.found.1 } in
-    inl (inr (fetched c.args.cluster.now place c.args.stamp c.args.index c.in_ok-looked.looked.dir entry.entry entry.ensures.0 entry.ensures.1 entry.ensures.2 g.D.Disk.seen g.D.Disk.left_since c.args.disk.now c.look_at.new.disk c.fetch.new.disk
-    c.in_ok-looked.ensures.directory c.in_ok-looked.ensures.runs c.deref.result.now (c.deref.ensures ∙ c.in_ok-looked.ensures.folder) c.in_ok-bytes.bytes c.in_ok-bytes.ensures.bytes c.in_ok-bytes.ensures.runs
-    (Fragment c.in_ok-bytes.bytes) (inl (subst (IsArchiveOf c.args.cluster.now place c.args.stamp c.args.index) c.as_slice.ensures archive, refl))))
-
 pub returns-clause-handles : goal.returns-clause-handles
 returns-clause-handles g c =
     let entry = c.in-Some in
     let place = c.args.place.now in
-    let spoil = c.in-Err.spoil in
     inl (inr (fetched c.args.cluster.now place c.args.stamp c.args.index c.in_ok-looked.looked.dir entry.entry entry.ensures.0 entry.ensures.1 entry.ensures.2 g.D.Disk.seen g.D.Disk.left_since c.args.disk.now c.look_at.new.disk c.fetch.new.disk
     c.in_ok-looked.ensures.directory c.in_ok-looked.ensures.runs c.deref.result.now (c.deref.ensures ∙ c.in_ok-looked.ensures.folder) c.in_ok-bytes.bytes c.in_ok-bytes.ensures.bytes c.in_ok-bytes.ensures.runs
-    (Spoiled spoil) (inr (spoil, subst (λ (bytes : List ℕ). IsSpoil c.args.cluster.now place c.args.stamp c.args.index bytes spoil) c.as_slice.ensures c.in-Err.ensures.refused, refl))))
+    c.reply_of.result c.reply_of.ensures))
 
 pub returns-in_err-bytes-clause-handles : goal.returns-in_err-bytes-clause-handles
 returns-in_err-bytes-clause-handles g c =
@@ -62,11 +51,6 @@ pub returns-in_err-bytes-clause-kept : goal.returns-in_err-bytes-clause-kept
 returns-in_err-bytes-clause-kept g c =
     keeps_after g.D.Disk.seen g.D.Disk.left_since (folder_of c.args.place.now) g.D.Disk.tells c.args.disk.now c.look_at.new.disk c.fetch.new.disk (g.met.D.Disk.telling c.args.disk.now) (g.met.D.Disk.telling c.look_at.new.disk)
     c.in_ok-looked.ensures.runs c.in_ok-looked.ensures.kept c.in_err-bytes.ensures.kept
-
-pub returns-in-Ok-clause-kept : goal.returns-in-Ok-clause-kept
-returns-in-Ok-clause-kept g c =
-    keeps_after g.D.Disk.seen g.D.Disk.left_since (folder_of c.args.place.now) g.D.Disk.tells c.args.disk.now c.look_at.new.disk c.fetch.new.disk (g.met.D.Disk.telling c.args.disk.now) (g.met.D.Disk.telling c.look_at.new.disk)
-    c.in_ok-looked.ensures.runs c.in_ok-looked.ensures.kept c.in_ok-bytes.ensures.kept
 
 pub returns-clause-kept : goal.returns-clause-kept
 returns-clause-kept g c =
