@@ -1,0 +1,5 @@
+pub mod Lines
+pub mod Pairs
+pub mod Refusals
+pub mod Targets
+pub mod Tokens

@@ -1,0 +1,10 @@
+pub mod Body
+pub mod Closing
+pub mod Fields
+pub mod Framing
+pub mod Metadata
+pub mod Parts
+pub mod Refusal
+pub mod Response
+pub mod Target
+pub mod Values
