@@ -15,12 +15,6 @@ pub other_field : (field : Field) (front : List ℕ) → front ≡ take (min 14 
 other_field field front is other =
     sym (ap (λ (b : Bool). if b then Some (str_to_ascii_lowercase (drop 14 field.0), field.1) else None) (ap (λ (t : List ℕ). str_eq_ignore_ascii_case t prefix) (sym (is ∙ take_min 14 field.0)) ∙ other))
 
-pub told_pair : (field : Field) (front rest name value : List ℕ) → front ≡ take (min 14 (length field.0)) field.0 → rest ≡ drop (min 14 (length field.0)) field.0 → str_eq_ignore_ascii_case front prefix ≡ true
-    → name ≡ str_to_ascii_lowercase rest → value ≡ field.1 → Some (name, value) ≡ pair_of field
-told_pair field front rest name value is behind same lower told =
-    ap (λ (n : List ℕ). Some (n, value)) (lower ∙ ap str_to_ascii_lowercase (behind ∙ drop_min 14 field.0)) ∙ ap (λ (v : List ℕ). Some (str_to_ascii_lowercase (drop 14 field.0), v)) told
-    ∙ sym (ap (λ (b : Bool). if b then Some (str_to_ascii_lowercase (drop 14 field.0), field.1) else None) (ap (λ (t : List ℕ). str_eq_ignore_ascii_case t prefix) (sym (is ∙ take_min 14 field.0)) ∙ same))
-
 -- ---- the pairs of some fields
 
 pub pairs_more : (fields : List Field) (i : ℕ) (field : Field) (pairs more : List Pair) → i < length fields → field ≡ get_or fields i field → pairs ≡ fold set_pair [] (filter_map pair_of (take i fields))
