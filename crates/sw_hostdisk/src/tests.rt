@@ -1,0 +1,173 @@
+//! Each call of a disk over real files, in an empty folder.
+
+ghost use Rattle.std.specs.Prelude.{◌≤◌, length};
+
+use crate::{HostDisk, HostShelf};
+use std::alloc::Global;
+use std::process::{Abort, id};
+use std::rt::LibcRuntime;
+use std::test::Fail;
+use std::{env, fs};
+use sw_disk::{Disk, DiskRefusal};
+use sw_shelf::{Shelf, ShelfFault};
+
+type TestDisk = HostDisk<LibcRuntime>;
+
+const FOLDER: &str = "objects/9/f72/900150983cd24fb0d6963f7d28e17f72";
+
+// A folder of the host that is empty and only of this run.
+fn empty_folder(rt: &LibcRuntime) -> Result<String, Fail> {
+    let temp = env::temp_dir(rt)?;
+    let path = format!(in rt.alloc();
+        "{}/hostdisk-{}",
+        temp.as_path().display(),
+        id(rt.process())
+    )?;
+    fs::create_dir(rt, path.as_str())?;
+    Ok(path)
+}
+
+fn store(
+    disk: &mut TestDisk,
+    alloc: Global,
+    folder: &str,
+    name: &str,
+    bytes: &[u8],
+) -> Result<(), DiskRefusal>
+    requires folder { length folder.now ≤ 64 }
+    requires name { length name.now ≤ 96 }
+{
+    disk.ready(alloc, folder, 1)?;
+    disk.write_tmp(alloc, bytes)?;
+    disk.sync_tmp()?;
+    disk.publish(folder, name)?;
+    disk.sync_dir(folder)
+}
+
+// The folder has files of these names, and no others.
+fn expect_names(
+    rt: &impl Abort,
+    alloc: Global,
+    disk: &mut TestDisk,
+    names: &[&str],
+) -> Result<(), Fail> {
+    let listed = disk.list(alloc, FOLDER)?;
+    assert_eq!(rt; listed.len(), names.len());
+    for place in 0..4usize {
+        assert_eq!(rt;
+            listed.get(place).map(|name| name.as_str()),
+            names.get(place).copied()
+        );
+    }
+    Ok(())
+}
+
+fn expect_full(rt: &impl Abort, alloc: Global, disk: &mut TestDisk, need: u64, free: u64)
+    requires { need ≤ 16 }
+{
+    let bytes = [7; 16];
+    assert_eq!(rt;
+        disk.write_tmp(alloc, &bytes[..need as usize]),
+        Err(DiskRefusal::Full { need, free })
+    );
+}
+
+#[test]
+fn keeps_files_of_the_host(rt: HostRuntime) -> Result<(), Fail> {
+    let alloc = rt.alloc();
+    let root = empty_folder(&rt)?;
+    if root.len() > 512 {
+        return Err("the path is too long".into());
+    }
+    let mut shelf = HostShelf::new(rt.clone()?, &root);
+    let mut disk = shelf.disk(alloc, 3, 10)?;
+    assert!(rt; disk.folders(alloc)?.is_empty());
+    expect_names(&rt, alloc, &mut disk, &[])?;
+    assert_eq!(rt; disk.sync_tmp(), Err(DiskRefusal::Failed));
+    expect_full(&rt, alloc, &mut disk, 11, 10);
+    change_files(&rt, alloc, &mut disk)?;
+    let base = format!(in alloc; "{root}/data/3")?;
+    add_foreign_files(&rt, &base)?;
+    assert_eq!(rt; disk.sync_dir("objects/8"), Err(DiskRefusal::Failed));
+    shelf.back(3, disk);
+    expect_found_again(&rt, alloc, &mut shelf)?;
+    expect_locked(&rt, alloc, &root)?;
+    expect_foreign_files(&rt, &base)?;
+    fs::remove_dir_all(&rt, &root)?;
+    Ok(())
+}
+
+fn change_files(rt: &impl Abort, alloc: Global, disk: &mut TestDisk) -> Result<(), Fail> {
+    store(disk, alloc, FOLDER, "b", b"12345")?;
+    store(disk, alloc, FOLDER, "a", b"67")?;
+    expect_names(rt, alloc, disk, &["a", "b"])?;
+    expect_full(rt, alloc, disk, 4, 3);
+    assert_eq!(rt;
+        store(disk, alloc, FOLDER, "a", b"8"),
+        Err(DiskRefusal::Failed)
+    );
+    assert_eq!(rt; disk.rename(FOLDER, "a", "b"), Err(DiskRefusal::Failed));
+    disk.rename(FOLDER, "a", "c")?;
+    assert_eq!(rt; disk.read(alloc, FOLDER, "c")?.as_slice(), b"67".as_slice());
+    assert_eq!(rt; disk.read(alloc, FOLDER, "a").is_err(), true);
+    disk.remove(FOLDER, "b")?;
+    assert_eq!(rt; disk.remove(FOLDER, "b"), Err(DiskRefusal::Failed));
+    expect_names(rt, alloc, disk, &["c"])?;
+    expect_full(rt, alloc, disk, 9, 8);
+    Ok(())
+}
+
+// Files and folders that are none of a disk's.
+const FOREIGN: [&str; 3] = [
+    "note",
+    "objects/9/f72/note",
+    "objects/9/f72/900150983cd24fb0d6963f7d28e17f72/folder",
+];
+
+fn add_foreign_files(rt: &LibcRuntime, base: &str) -> Result<(), Fail> {
+    for (place, path) in FOREIGN.iter().enumerate() {
+        let path = format!(in rt.alloc(); "{base}/{path}")?;
+        if place == 2 {
+            fs::create_dir(rt, path.as_str())?;
+        } else {
+            fs::write(rt, path.as_str(), "1")?;
+        }
+    }
+    Ok(())
+}
+
+fn expect_foreign_files(rt: &LibcRuntime, base: &str) -> Result<(), Fail> {
+    for path in FOREIGN {
+        let path = format!(in rt.alloc(); "{base}/{path}")?;
+        if !fs::exists(rt, path.as_str())? {
+            return Err("a foreign file is gone".into());
+        }
+    }
+    Ok(())
+}
+
+// A second disk of the device finds what the first one left.
+fn expect_found_again(
+    rt: &impl Abort,
+    alloc: Global,
+    shelf: &mut HostShelf<LibcRuntime>,
+) -> Result<(), Fail> {
+    let mut disk = shelf.disk(alloc, 3, 10)?;
+    let folders = disk.folders(alloc)?;
+    assert_eq!(rt; folders.len(), 1);
+    assert_eq!(rt; folders.first().map(|folder| folder.as_str()), Some(FOLDER));
+    expect_names(rt, alloc, &mut disk, &["c"])?;
+    expect_full(rt, alloc, &mut disk, 9, 8);
+    Ok(())
+}
+
+// Another shelf gets no disk of the folder.
+fn expect_locked(rt: &LibcRuntime, alloc: Global, root: &str) -> Result<(), Fail>
+    requires { length root.now ≤ 512 }
+{
+    let mut other = HostShelf::new(rt.clone()?, root);
+    match other.disk(alloc, 3, 10) {
+        Err(ShelfFault::Failed) => Ok(()),
+        _ => Err("it is not locked".into()),
+    }
+}
