@@ -23,12 +23,7 @@ pub trait Shelf {
     ghost returned: { Self → Option (List (ℕ × Self.Disk)) };
 
     /// A disk for a device, of so many bytes. Where it tells what it holds, it holds nothing.
-    fn disk(
-        &mut self,
-        alloc: Global,
-        device: u16,
-        capacity: u64,
-    ) -> Result<Self::Disk, ShelfFault>
+    fn disk(&mut self, alloc: Global, device: u16, capacity: u64) -> Result<Self::Disk, ShelfFault>
         ensures new { IfOk result (λ disk. IsNew capacity (Self.Disk.seen disk)) }
         ensures out { OnOk result (out self.new ≡ one_more (out self.old)) }
         ensures kept { OnErr result (out self.new ≡ out self.old) }
