@@ -2,6 +2,7 @@
 
 use super::*;
 use std::alloc::Global;
+use std::process::Abort;
 use std::test::Fail;
 use sw_httpread::{Carry, Framing, HeadNext, RequestHead, next_head};
 use sw_httpwrite::{Answer, write_response};
@@ -48,8 +49,7 @@ fn told(verdict: &Verdict) -> &[u8] {
     }
 }
 
-fn expect_told(rt: HostRuntime, cases: &[(&str, &str)]) -> Result<(), Fail> {
-    let alloc = rt.alloc();
+fn expect_told(rt: &impl Abort, alloc: Global, cases: &[(&str, &str)]) -> Result<(), Fail> {
     for (text, want) in cases {
         let verdict = judge(alloc, &head_of(alloc, text.as_bytes())?)?;
         assert_eq!(rt; told(&verdict), want.as_bytes(), "of {text:?}");
@@ -60,7 +60,8 @@ fn expect_told(rt: HostRuntime, cases: &[(&str, &str)]) -> Result<(), Fail> {
 #[test]
 fn heads_out_of_form(rt: HostRuntime) -> Result<(), Fail> {
     expect_told(
-        rt,
+        &rt,
+        rt.alloc(),
         &[
             ("GET /v1/a/c/o HTTP/1.1\r\n\r\n", "BadHost\n"),
             ("GET /v1/a/c/o HTTP/1.1\r\nHost: h\r\n\r\n", "no body"),
@@ -91,7 +92,8 @@ fn heads_out_of_form(rt: HostRuntime) -> Result<(), Fail> {
 #[test]
 fn framings(rt: HostRuntime) -> Result<(), Fail> {
     expect_told(
-        rt,
+        &rt,
+        rt.alloc(),
         &[
             (
                 "GET /v1/a/c/o HTTP/1.0\r\nContent-Length: 1\r\nContent-Length: 1\r\n\r\n",
@@ -156,7 +158,8 @@ fn framings(rt: HostRuntime) -> Result<(), Fail> {
 #[test]
 fn clients_that_wait(rt: HostRuntime) -> Result<(), Fail> {
     expect_told(
-        rt,
+        &rt,
+        rt.alloc(),
         &[
             (
                 "PUT /v1/a/c/o HTTP/1.1\r\nHost: h\r\nExpect: 100-Continue\r\nContent-Length: 1\r\n\r\n",
@@ -346,8 +349,7 @@ fn connections_that_end(rt: HostRuntime) -> Result<(), Fail> {
     Ok(())
 }
 
-fn expect_written(rt: HostRuntime, answer: &Answer, want: &str) -> Result<(), Fail> {
-    let alloc = rt.alloc();
+fn expect_written(rt: &impl Abort, alloc: Global, answer: &Answer, want: &str) -> Result<(), Fail> {
     let mut conn = MemConn::new(alloc, Vec::new(alloc));
     if write_response(alloc, &mut conn, answer).is_err() {
         return Err("not written".into());
@@ -371,7 +373,7 @@ fn answers(rt: HostRuntime) -> Result<(), Fail> {
     ];
     for (method, want) in cases {
         match judge(alloc, &head_at(alloc, method, b"/")?)? {
-            Verdict::Refuse(answer) => expect_written(rt, &answer, want)?,
+            Verdict::Refuse(answer) => expect_written(&rt, alloc, &answer, want)?,
             Verdict::Read {
                 framing: _,
                 waits: _,
@@ -380,13 +382,15 @@ fn answers(rt: HostRuntime) -> Result<(), Fail> {
     }
     let answer = refused(alloc, false, BadInput::HeadTooLarge)?;
     expect_written(
-        rt,
+        &rt,
+        alloc,
         &answer,
         "HTTP/1.1 431 Request Header Fields Too Large\r\nContent-Length: 13\r\nContent-Type: text/plain\r\nConnection: close\r\n\r\nHeadTooLarge\n",
     )?;
     let answer = refusal_answer(alloc, false, false, Refusal::ETagDiffers)?;
     expect_written(
-        rt,
+        &rt,
+        alloc,
         &answer,
         "HTTP/1.1 422 Unprocessable Entity\r\nContent-Length: 12\r\nContent-Type: text/plain\r\n\r\nETagDiffers\n",
     )
