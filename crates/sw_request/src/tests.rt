@@ -233,49 +233,6 @@ fn long_names(rt: HostRuntime) -> Result<(), Fail> {
 }
 
 #[test]
-fn names(rt: HostRuntime) -> Result<(), Fail> {
-    let alloc = rt.alloc();
-    let cases = [
-        ("/v1/a/c/o", "/a/c/o"),
-        ("/v1/a/c%2Fo", "/a/c/o"),
-        ("/v1/a/c/o/%3F?query", "/a/c/o/?"),
-        ("HTTP://h:1/v1/a/c/o?query", "/a/c/o"),
-    ];
-    for (target, want) in cases {
-        let head = head_at(alloc, "GET", target.as_bytes())?;
-        let name = Request::new(head, Bytes::new(alloc)).name(alloc)?;
-        let path = name.path(alloc)?;
-        assert_eq!(rt; path.as_slice(), want.as_bytes(), "of {target:?}");
-    }
-    Ok(())
-}
-
-#[test]
-fn objects(rt: HostRuntime) -> Result<(), Fail> {
-    let alloc = rt.alloc();
-    let text =
-        "PUT /v1/a/c/o HTTP/1.0\r\nContent-Length: 3\r\nX-Object-Meta-Color: red\r\nx-object-meta-B:\r\nX-OBJECT-META-COLOR: Blue\r\n\r\n";
-    let object = request_of(alloc, text, b"abc")?.object(alloc)?;
-    assert_eq!(rt; object.body().as_slice(), b"abc".as_slice());
-    assert_eq!(rt;
-        object.head().content_type(),
-        b"application/octet-stream".as_slice()
-    );
-    let [color, other] = object.head().pairs() else {
-        return Err("other pairs".into());
-    };
-    assert_eq!(rt; color.0.as_slice(), b"color".as_slice());
-    assert_eq!(rt; color.1.as_slice(), b"Blue".as_slice());
-    assert_eq!(rt; other.0.as_slice(), b"b".as_slice());
-    assert_eq!(rt; other.1.is_empty(), true);
-    let text =
-        "PUT /v1/a/c/o HTTP/1.0\r\nContent-Length: 0\r\nContent-Type: text/a\r\ncontent-type: text/b\r\n\r\n";
-    let object = request_of(alloc, text, b"")?.object(alloc)?;
-    assert_eq!(rt; object.head().content_type(), b"text/b".as_slice());
-    Ok(())
-}
-
-#[test]
 fn tags(rt: HostRuntime) -> Result<(), Fail> {
     let alloc = rt.alloc();
     // The MD5 of `abc` by RFC 1321, appendix A.5.
