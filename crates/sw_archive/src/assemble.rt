@@ -78,6 +78,14 @@ impl Assemble {
         Ok(())
     }
 
+    /// Whether an archive can stand beside those that are there: it is alike to each, its index is not among theirs, and fewer than its
+    /// k are there. It takes no memory.
+    pub fn is_next(&self, archive: &Archive) -> bool
+        ensures { IsTrue result ↔ IsNext self.now.archives archive.now }
+    {
+        is_next(&self.archives, archive)
+    }
+
     /// Adds an archive, or hands back one that cannot stand beside those that are there. It takes no memory.
     pub fn add(&mut self, archive: Archive) -> Result<(), Archive>
         requires room { k_of self.old.archives archive ≤ self.old.room }

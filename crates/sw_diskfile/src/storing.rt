@@ -1,13 +1,13 @@
 //! Storing archives and tombstones.
 
-ghost use Rattle.std.specs.Prelude.{◌≡◌, ◌≢◌, ◌<◌, ◌≤◌, ℕ, false, [], ◌∷◌, IfErr, IsErrOf, IsSome, OnOk, Some, length, ⊤};
+ghost use Rattle.std.specs.Prelude.{◌≡◌, ◌≢◌, ◌⊎◌, ◌<◌, ◌≤◌, ℕ, false, [], ◌∷◌, IfErr, IsErrOf, IsSome, OnOk, Some, length, ⊤};
 ghost use Rattle.sw_types.specs.Policy.{greatest_total};
 ghost use Rattle.sw_disk.specs.Answers.{IsFull, IsNotFull, LacksFile};
 ghost use Rattle.sw_disk.specs.Calls.{PublishTmp, SyncDir, SyncTmp, WriteTmp};
-ghost use Rattle.sw_disk.specs.Runs.{IfTold, Runs, TakesRoom, refusal_of};
+ghost use Rattle.sw_disk.specs.Runs.{IfTold, IsUntouched, Runs, TakesRoom, refusal_of};
 ghost use Rattle.sw_disk.specs.State.{free_of};
 ghost use Rattle.sw_disk.specs.declared.refusal.DiskRefusal.{DiskRefusal as ARefusal};
-ghost use Rattle.sw_disk.specs.declared.refusal.DiskRefusal.TheVariants.{Failed};
+ghost use Rattle.sw_disk.specs.declared.refusal.DiskRefusal.TheVariants.{Failed, NoMemory};
 ghost use Rattle.sw_hashpath.specs.FileName.{IsFileName, file_name_text};
 ghost use Rattle.sw_hashpath.specs.declared.file_name.FileName.{FileName as AFileName};
 ghost use Rattle.sw_hashpath.specs.declared.file_name.FileName.TheVariants.{Data, Tombstone};
@@ -23,7 +23,8 @@ use sw_types::Stamp;
 
 /// Stores an archive of an index below 32, not durable, where its plain name is not there yet.
 ///
-/// The disk may be full, as its `write_tmp` says. All memory is taken, and the room is known, before the first device call is done.
+/// The disk may be full, as its `write_tmp` says, and is not told as want of memory: that comes before any device call, or where the
+/// bytes fit. All memory is taken, and the room is known, before the first device call is done.
 pub fn store<D: Disk>(
     alloc: Global,
     disk: &mut D,
@@ -46,6 +47,7 @@ pub fn store<D: Disk>(
     ensures full { (need free : ℕ) → IsErrOf result (DiskRefusal.Full need free) → IsFull need free (length bytes.now) (D.seen disk.old).told }
     ensures fits { OnOk result (IfTold (D.seen disk.old).told (λ state. length bytes.now ≤ free_of state)) }
     ensures overfull { (reason : ARefusal) → refusal_of result ≡ Some reason → IfTold (D.seen disk.old).told (λ state. free_of state < length bytes.now → Runs D.seen D.left_since (WriteTmp bytes.now ∷ []) (Some reason) disk.old disk.new) }
+    ensures memory { IsErrOf result NoMemory → IsUntouched D.seen D.left_since disk.old disk.new ⊎ IfTold (D.seen disk.old).told (λ state. length bytes.now ≤ free_of state) }
 {
     let name = FileName::Data {
         stamp,
@@ -101,6 +103,7 @@ fn make_file<D: Disk>(
     ensures full { (need free : ℕ) → IsErrOf result (DiskRefusal.Full need free) → IsFull need free (length bytes.now) (D.seen disk.old).told }
     ensures fits { OnOk result (IfTold (D.seen disk.old).told (λ state. length bytes.now ≤ free_of state)) }
     ensures overfull { (reason : ARefusal) → refusal_of result ≡ Some reason → IfTold (D.seen disk.old).told (λ state. free_of state < length bytes.now → Runs D.seen D.left_since (WriteTmp bytes.now ∷ []) (Some reason) disk.old disk.new) }
+    ensures memory { IsErrOf result NoMemory → IsUntouched D.seen D.left_since disk.old disk.new ⊎ IfTold (D.seen disk.old).told (λ state. length bytes.now ≤ free_of state) }
 {
     file_by_calls(alloc, disk, folder, name, bytes)
 }
@@ -122,6 +125,7 @@ fn file_by_calls<D: Disk>(
     ensures full { (need free : ℕ) → IsErrOf result (DiskRefusal.Full need free) → IsFull need free (length bytes.now) (D.seen disk.old).told }
     ensures fits { OnOk result (IfTold (D.seen disk.old).told (λ state. length bytes.now ≤ free_of state)) }
     ensures overfull { (reason : ARefusal) → refusal_of result ≡ Some reason → IfTold (D.seen disk.old).told (λ state. free_of state < length bytes.now → Runs D.seen D.left_since (WriteTmp bytes.now ∷ []) (Some reason) disk.old disk.new) }
+    ensures memory { IsErrOf result NoMemory → IsUntouched D.seen D.left_since disk.old disk.new ⊎ IfTold (D.seen disk.old).told (λ state. length bytes.now ≤ free_of state) }
 {
     let text = name.print(alloc)?;
     disk.ready(alloc, folder, 1)?;

@@ -24,9 +24,6 @@ pub room_added : (archives : List ArchiveModel) (archive : ArchiveModel) (room :
 room_added archives archive room all within =
     All-append (λ archive. archive.k ≤ room) archives (archive ∷ []) all (All-cons (λ archive. archive.k ≤ room) archive [] within (All-nil (λ archive. archive.k ≤ room)))
 
-pub room_kept : (room more most : ℕ) (old middle new : List ArchiveModel) → room ≤ more → most ≡ more → middle ≡ old → new ≡ middle → HaveRoom room old → HaveRoom most new
-room_kept room more most old middle new up same first second all = room_more room most new (omega (arith, up, same)) (subst (HaveRoom room) (sym (second ∙ first)) all)
-
 pub room_grown : (room more most : ℕ) (old middle new : List ArchiveModel) (archive : ArchiveModel) → room ≤ more → most ≡ more → middle ≡ old → new ≡ middle ++ archive ∷ [] → archive.k ≤ more
     → HaveRoom room old → HaveRoom most new
 room_grown room more most old middle new archive up same first second within all =

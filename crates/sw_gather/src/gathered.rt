@@ -6,7 +6,7 @@ ghost use Rattle.std.specs.List.{All};
 ghost use Rattle.sw_types.specs.Name.{NameModel};
 ghost use Rattle.sw_types.specs.Object.{ObjectModel};
 ghost use Rattle.sw_types.specs.Policy.{PolicyModel};
-ghost use Rattle.sw_archive.specs.Assemble.{AreEnough, IsFurther};
+ghost use Rattle.sw_archive.specs.Assemble.{AreEnough, IsFurther, IsNext};
 ghost use Rattle.sw_archive.specs.Put.{AreOfPut, IsPut, put_archive};
 
 use std::alloc::Global;
@@ -46,7 +46,8 @@ impl Gathered {
     }
 
     /// Adds an archive of the policy, and says whether it is one of the same object as those before it. Once k are there the
-    /// object is decoded; where they tell another MD5 than that of the body that they hold, the last is of another object.
+    /// object is decoded; where they tell another MD5 than that of the body that they hold, the last is of another object. Memory is
+    /// wanted only for one that can stand beside those before it.
     pub fn join(
         &mut self,
         alloc: Global,
@@ -56,11 +57,13 @@ impl Gathered {
         requires { archive.k ≡ policy.now.k }
         ensures joined { IfOk result (λ joined. Joins policy.now self.old archive joined self.new) }
         ensures refused { OnErr result (self.new ≡ self.old) }
+        ensures memory { OnErr result (IsNext self.old.archives archive) }
     {
-        self.archives.reserve(policy.k())?;
-        if let Err(_other) = self.archives.add(archive) {
+        if !self.archives.is_next(&archive) {
             return Ok(false);
         }
+        self.archives.reserve(policy.k())?;
+        self.archives.add(archive).unwrap();
         if !self.archives.is_enough() {
             return Ok(true);
         }

@@ -1,44 +1,15 @@
 //! Archives that were asked for.
 
 ghost use Rattle.std.specs.Prelude.{◌≡◌, ◌↔◌, Err, IfErr, IfOk, IsTrue, MatchOption, MatchResult, Ok};
-ghost use Rattle.sw_words.specs.Memory.{UnlessMemory};
 ghost use Rattle.sw_archive.specs.Archive.{ArchiveModel, IsArchive};
 ghost use Rattle.sw_message.specs.Spoil.{DiffersIn, HasCode, IsAlike, IsAsked, IsNamed, IsOfPlace, IsSpoil, IsSpoilOf};
 ghost use Rattle.sw_message.specs.declared.spoil.Spoil.{Spoil as ASpoil};
-ghost use Rattle.sw_message.specs.declared.checking.Unread.TheVariants.{NoMemory as WantOfMemory, Spoiled};
 
 use crate::spoil::{Foreign, Spoil};
-use std::alloc::Global;
-use sw_archive::{Archive, Spelled, check_archive};
+use sw_archive::{Spelled, check_archive};
 use sw_hashpath::Place;
 use sw_ring::Cluster;
-use sw_types::{Name, NoMemory, Policy, Stamp};
-use thiserror::Error;
-
-/// Why an archive was not read.
-#[derive(Clone, Copy, Debug, PartialEq, Eq, Error)]
-pub enum Unread {
-    #[error("not the archive that was asked for")]
-    Spoiled(Spoil),
-    #[error("out of memory")]
-    NoMemory,
-}
-
-impl From<NoMemory> for Unread {
-    ghost from_gives = { λ _ unread. unread ≡ WantOfMemory };
-
-    fn from(_refused: NoMemory) -> Unread {
-        Unread::NoMemory
-    }
-}
-
-impl From<Spoil> for Unread {
-    ghost from_gives = { λ spoil unread. unread ≡ Spoiled spoil };
-
-    fn from(spoil: Spoil) -> Unread {
-        Unread::Spoiled(spoil)
-    }
-}
+use sw_types::{Name, Policy, Stamp};
 
 /// The archive of a place, stamp and index of a cluster where it stands in these bytes, or the first thing in which they are not
 /// it. It takes no memory.
@@ -72,48 +43,6 @@ pub fn check_named<'a>(
     ensures spoiled { (spoil : ASpoil) → IsSpoilOf (IsNamed name.now) policy.now stamp index bytes.now spoil → result ≡ Err spoil }
 {
     check_of_name(policy, name, stamp, index, bytes)
-}
-
-/// Reads the archive of a place, stamp and index of a cluster. It takes memory, and may answer `NoMemory`, only where the bytes
-/// are that archive.
-pub fn read_asked(
-    alloc: Global,
-    cluster: &Cluster,
-    place: &Place,
-    stamp: Stamp,
-    index: u32,
-    bytes: &[u8],
-) -> Result<Archive, Unread>
-    ensures found { IfOk result (λ archive. IsArchive bytes.now archive × IsAsked (IsOfPlace cluster.now place.now) cluster.now.policy stamp index archive) }
-    ensures reads { (archive : ArchiveModel) → IsArchive bytes.now archive → IsAsked (IsOfPlace cluster.now place.now) cluster.now.policy stamp index archive → UnlessMemory (Err WantOfMemory) result (result ≡ Ok archive) }
-    ensures refused { IfErr result (λ unread. UnlessMemory WantOfMemory unread ((spoil : ASpoil) × (unread ≡ Spoiled spoil) × IsSpoil cluster.now place.now stamp index bytes.now spoil)) }
-    ensures spoiled { (spoil : ASpoil) → IsSpoil cluster.now place.now stamp index bytes.now spoil → result ≡ Err (Spoiled spoil) }
-    ensures memory { result ≡ Err WantOfMemory → (archive : ArchiveModel) × IsArchive bytes.now archive × IsAsked (IsOfPlace cluster.now place.now) cluster.now.policy stamp index archive }
-{
-    let spelled = check_asked(cluster, place, stamp, index, bytes)?;
-    let archive = spelled.archive(alloc)?;
-    Ok(archive)
-}
-
-/// Reads the archive of a name, stamp and index under a policy. It takes memory, and may answer `NoMemory`, only where the bytes
-/// are that archive.
-pub fn read_named(
-    alloc: Global,
-    policy: &Policy,
-    name: &Name,
-    stamp: Stamp,
-    index: u32,
-    bytes: &[u8],
-) -> Result<Archive, Unread>
-    ensures found { IfOk result (λ archive. IsArchive bytes.now archive × IsAsked (IsNamed name.now) policy.now stamp index archive) }
-    ensures reads { (archive : ArchiveModel) → IsArchive bytes.now archive → IsAsked (IsNamed name.now) policy.now stamp index archive → UnlessMemory (Err WantOfMemory) result (result ≡ Ok archive) }
-    ensures refused { IfErr result (λ unread. UnlessMemory WantOfMemory unread ((spoil : ASpoil) × (unread ≡ Spoiled spoil) × IsSpoilOf (IsNamed name.now) policy.now stamp index bytes.now spoil)) }
-    ensures spoiled { (spoil : ASpoil) → IsSpoilOf (IsNamed name.now) policy.now stamp index bytes.now spoil → result ≡ Err (Spoiled spoil) }
-    ensures memory { result ≡ Err WantOfMemory → (archive : ArchiveModel) × IsArchive bytes.now archive × IsAsked (IsNamed name.now) policy.now stamp index archive }
-{
-    let spelled = check_named(policy, name, stamp, index, bytes)?;
-    let archive = spelled.archive(alloc)?;
-    Ok(archive)
 }
 
 // The archive of a place, stamp and index, or the first thing in which the bytes differ.

@@ -18,7 +18,7 @@ mod spoil;
 mod target;
 mod tickets;
 
-pub use crate::checking::{Unread, check_asked, check_named, read_asked, read_named};
+pub use crate::checking::{check_asked, check_named};
 pub use crate::devices::primaries;
 pub use crate::draw::{Draw, DrawFault};
 pub use crate::floors::{higher, highest_with, is_above, refuses, stands_above};

@@ -2,11 +2,11 @@
 
 use crate::Foreign::{Code, Index, Name as OfName, Object as OfObject, Stamp as OfStamp};
 use crate::{
-    Foreign, Miss, Msg, Reply, Spoil, Target, Tickets, Unread, primaries, read_asked, sort_targets,
+    Foreign, Miss, Msg, Reply, Spoil, Target, Tickets, check_asked, primaries, sort_targets,
 };
 use std::alloc::Global;
 use std::test::Fail;
-use sw_archive::{Archive, ArchiveFault, make_archive};
+use sw_archive::{ArchiveFault, Spelled, make_archive};
 use sw_hashpath::Place;
 use sw_ring::{Cluster, built_in};
 use sw_types::{Bytes, Head, Name, Object, Policy, Stamp};
@@ -24,16 +24,15 @@ fn a_c_o(alloc: Global) -> Result<Name, Fail> {
     Ok(Name::make(alloc, b"a", b"c", b"o")?)
 }
 
-// What is read. Nothing is promised of it, which keeps the proofs of the tests short.
-fn asked(
-    alloc: Global,
+// What stands in the bytes. Nothing is promised of it, which keeps the proofs of the tests short.
+fn asked<'a>(
     cluster: &Cluster,
     place: &Place,
     stamp: Stamp,
     index: u32,
-    bytes: &[u8],
-) -> Result<Archive, Unread> {
-    read_asked(alloc, cluster, place, stamp, index, bytes)
+    bytes: &'a [u8],
+) -> Result<Spelled<'a>, Spoil> {
+    check_asked(cluster, place, stamp, index, bytes)
 }
 
 #[test]
@@ -43,7 +42,8 @@ fn reads_what_was_asked_for(rt: HostRuntime) -> Result<(), Fail> {
     let place = cluster.place(alloc, &a_c_o(alloc)?)?;
     let stamp = Stamp::make(7).ok_or("stamp")?;
     let bytes = made(alloc, stamp, 1_048_576)?;
-    let archive = asked(alloc, &cluster, &place, stamp, 1, bytes.as_slice())?;
+    let spelled = asked(&cluster, &place, stamp, 1, bytes.as_slice());
+    let archive = spelled.ok().ok_or("spoiled")?.archive(alloc)?;
     assert_eq!(rt; archive.index(), 1);
     assert_eq!(rt; archive.payload(), b"c\x00".as_slice());
     Ok(())
@@ -68,9 +68,8 @@ fn tells_the_first_difference(rt: HostRuntime) -> Result<(), Fail> {
     ];
     for (place, asked_for, index, segment, foreign) in cases {
         let bytes = made(alloc, stamp, segment)?;
-        let read = asked(alloc, &cluster, &place, asked_for, index, bytes.as_slice());
-        let spoil = Spoil::Foreign(foreign);
-        assert_eq!(rt; read.err(), Some(Unread::Spoiled(spoil)));
+        let spelled = asked(&cluster, &place, asked_for, index, bytes.as_slice());
+        assert_eq!(rt; spelled.err(), Some(Spoil::Foreign(foreign)));
     }
     Ok(())
 }
@@ -96,8 +95,8 @@ fn tells_the_fault(rt: HostRuntime) -> Result<(), Fail> {
         (short, ArchiveFault::Short { found: 67 }),
     ];
     for (bytes, fault) in cases {
-        let read = asked(alloc, &cluster, &place, stamp, 1, bytes);
-        assert_eq!(rt; read.err(), Some(Unread::Spoiled(Spoil::Fault(fault))));
+        let spelled = asked(&cluster, &place, stamp, 1, bytes);
+        assert_eq!(rt; spelled.err(), Some(Spoil::Fault(fault)));
     }
     Ok(())
 }

@@ -161,7 +161,7 @@ module _ (cluster : ClusterModel) (calls pick : ℕ) (node between : MemNode) wh
       read (Err (refusal.Full need room)) (inr follows) =
           quiet (take 2 follows.handling.calls) (Some (refusal.Full need room)) (λ name temporary. quiet_first name 2 follows.handling.calls temporary (reads follows.found follows.handling follows.row name temporary)) follows.runs.1
       read (Err refusal.NoMemory) (inr follows) =
-          quiet (take 2 follows.handling.calls) (Some refusal.NoMemory) (λ name temporary. quiet_first name 2 follows.handling.calls temporary (reads follows.found follows.handling follows.row name temporary)) follows.runs
+          quiet (take 2 follows.handling.calls) (Some refusal.NoMemory) (λ name temporary. quiet_first name 2 follows.handling.calls temporary (reads follows.found follows.handling follows.row name temporary)) follows.runs.1
 
       unchanged : (name : List ℕ) → after name ≡ before name
       unchanged name =

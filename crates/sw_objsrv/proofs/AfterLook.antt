@@ -88,7 +88,7 @@ module _ {D : Type 0} (seen : D → Seen) (left_since : D → Past) (folder : Li
   Looks refusal a b = RunsUnlessMemory seen left_since (ListNames folder ∷ []) refusal a b
 
   -- memory was wanted behind it
-  wants_memory : (result : Result Reply DiskRefusal) (a b c : D) → Looks None a b → refusal_of result ≡ Some NoMemory → IsUntouched seen left_since b c → StopsEarly seen left_since (ListNames folder) result a c
+  pub wants_memory : (result : Result Reply DiskRefusal) (a b c : D) → Looks None a b → refusal_of result ≡ Some NoMemory → IsUntouched seen left_since b c → StopsEarly seen left_since (ListNames folder) result a c
   wants_memory (Ok reply) a b c looked is same = absurd (cc)
   wants_memory (Err Failed) a b c looked is same = absurd (cc)
   wants_memory (Err (Full need free)) a b c looked is same = absurd (cc)
@@ -110,9 +110,11 @@ module _ {D : Type 0} (seen : D → Seen) (left_since : D → Past) (folder : Li
     inl (subst IsAnswer (sym replies) runs.0),
   )
   runs_row reply calls (Err (Full need free)) handling a b c replies is looked runs = absurd runs
-  runs_row reply calls (Err NoMemory) handling a b c replies is looked runs =
-      subst (λ (l : List Call). Runs seen left_since (take 2 l) (Some NoMemory) a c) (sym is)
-      (runs_more seen left_since (ListNames folder ∷ []) (take 1 calls) (Some NoMemory) a b c (look_done seen left_since folder a b looked) runs)
+  runs_row reply calls (Err NoMemory) handling a b c replies is looked runs = (
+    subst IsAnswer (sym replies) runs.0,
+    subst (λ (l : List Call). Runs seen left_since (take 2 l) (Some NoMemory) a c) (sym is)
+        (runs_more seen left_since (ListNames folder ∷ []) (take 1 calls) (Some NoMemory) a b c (look_done seen left_since folder a b looked) runs.1),
+  )
 
   pub handles_after : (Row : Found → Handling → Type 0) (names : List FileName) (result : Result Reply DiskRefusal) (a b c : D) → Looks None a b → IfTold (seen a).told (λ s. IsDirectoryOf (s.folder folder) names)
       → HandlesAfterLook seen left_since folder Row names result b c → Handles seen left_since folder Row result a c
@@ -144,7 +146,7 @@ module _ {D : Type 0} (seen : D → Seen) (left_since : D → Past) (folder : Li
   runs_given reply calls (Ok given) a b answer other is runs early = (subst IsAnswer is answer, is, runs)
   runs_given reply calls (Err Failed) a b answer other is runs early = (answer, runs)
   runs_given reply calls (Err (Full need free)) a b answer other is runs early = absurd other
-  runs_given reply calls (Err NoMemory) a b answer other is runs early = early refl
+  runs_given reply calls (Err NoMemory) a b answer other is runs early = (answer, early refl)
 
   -- the look, and folders that are kept behind it
   pub keeps_after : (tells : Bool) (a b c : D) → IsTelling tells (seen a).told → IsTelling tells (seen b).told → Looks None a b → Keeps seen left_since (λ _. ⊤) a b → Keeps seen left_since (λ _. ⊤) b c → Keeps seen left_since (λ _. ⊤) a c

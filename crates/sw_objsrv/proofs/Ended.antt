@@ -41,7 +41,7 @@ module _ {D : Type 0} (seen : D → Seen) (left_since : D → Past) (a b : D) wh
   placed_ended folder Row (Err (refusal.Full need free)) (inl early) = absurd early
   placed_ended folder Row (Err (refusal.Full need free)) (inr follows) = follows.runs.1.quiet (λ is. cc)
   placed_ended folder Row (Err refusal.NoMemory) (inl early) = memory_quiet (ListNames folder ∷ []) early
-  placed_ended folder Row (Err refusal.NoMemory) (inr follows) = follows.runs.quiet (λ is. cc)
+  placed_ended folder Row (Err refusal.NoMemory) (inr follows) = follows.runs.1.quiet (λ is. cc)
 
   ended_survey : (calls : List Call) (reason : DiskRefusal) → StopsSurvey seen left_since calls reason a b → Ended (seen a) (seen b) (Err reason)
   ended_survey [] reason want = subst (λ (r : DiskRefusal). Ended (seen a) (seen b) (Err r)) (sym want.0) (ap (λ (disk : D). (seen disk).faults) want.1)

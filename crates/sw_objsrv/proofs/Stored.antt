@@ -1,10 +1,10 @@
 -- An archive that is stored where it is not there and no floor stands above it.
-use Rattle.std.proofs.Common.{◌≡◌, ◌≢◌, inl, inr, ℕ, ◌<◌, ◌≤◌, Bool, false, List, [], ◌∷◌, length, Option, None, Some, Ok, Err, refl, sym, ap, ◌∙◌, arith}
+use Rattle.std.proofs.Common.{◌≡◌, ◌≢◌, ◌⊎◌, ⊎_elim, inl, inr, ℕ, ◌<◌, ◌≤◌, Bool, false, List, [], ◌∷◌, length, Option, None, Some, Ok, Err, refl, sym, ap, ◌∙◌, arith}
 use Rattle.std.proofs.lemmas.Bool.{cases_lt}
 use Rattle.sw_disk.specs.Answers.{IsFull, names_of}
 use Rattle.sw_disk.specs.Calls.{Call, ListNames, WriteTmp}
 use Rattle.sw_disk.specs.Folder.{Folder, files_of}
-use Rattle.sw_disk.specs.Runs.{IfTold, IsTelling, Past, Runs, Seen}
+use Rattle.sw_disk.specs.Runs.{IfTold, IsTelling, IsUntouched, Past, Runs, Seen}
 use Rattle.sw_disk.specs.State.{State, free_of}
 use Rattle.sw_disk.specs.declared.refusal.DiskRefusal.{DiskRefusal}
 use Rattle.sw_disk.specs.declared.refusal.DiskRefusal.TheVariants.{Failed, Full, NoMemory}
@@ -23,8 +23,8 @@ use Rattle.sw_message.specs.Spoil.{IsArchiveOf}
 use Rattle.sw_message.specs.Table.{Found, Handling, HandlesPutFrag, IsUncovered, LacksEntry, answers_after, plain_text}
 use Rattle.sw_message.specs.declared.reply.Reply.TheVariants.{NoSpace, Synced}
 use Rattle.sw_objsrv.specs.Folder.{IsInOrder, StaysInOrder}
-use Rattle.sw_objsrv.specs.Handling.{Follows}
-use Rattle.sw_objsrv.proofs.AfterLook.{room_before}
+use Rattle.sw_objsrv.specs.Handling.{Follows, Handles}
+use Rattle.sw_objsrv.proofs.AfterLook.{room_before, wants_memory}
 use Rattle.sw_objsrv.proofs.Found.{found_in, is_found, room_at}
 use Rattle.sw_objsrv.proofs.Room.{AreWithin}
 use Rattle.sw_objsrv.proofs.RowForms.{stored_floor, stored_none, with_made}
@@ -103,51 +103,44 @@ module _ (stamp index : ℕ) (names : List FileName) (uncovered : IsUncovered na
 
       pub stored_refused : (reason : DiskRefusal) → ((need free : ℕ) → reason ≡ Full need free → IsFull need free (length bytes) (seen b).told)
           → IfTold (seen b).told (λ s. free_of s < length bytes → Runs seen left_since (WriteTmp bytes ∷ []) (Some reason) b c) → Runs seen left_since stores (Some reason) b c
-          → (reason ≢ Failed → Runs seen left_since (WriteTmp bytes ∷ []) (Some reason) b c) → Follows seen left_since (folder_of place) Row (Err reason) a c
-      stored_refused Failed is_full overfull run early =
+          → (reason ≢ Failed → Runs seen left_since (WriteTmp bytes ∷ []) (Some reason) b c) → (reason ≡ NoMemory → IsUntouched seen left_since b c ⊎ IfTold (seen b).told (λ s. length bytes ≤ free_of s))
+          → Handles seen left_since (folder_of place) Row (Err reason) a c
+      stored_refused Failed is_full overfull run early memory =
           let room = length bytes in
           elim (cases_lt (found room).room (length bytes)) [
-            | inl less ↦ record {
+            | inl less ↦ inr (record {
               found = found room;
               is_found = is_found (seen a).told (folder_of place) names [] room directory;
               handling = full (found room).room;
               row = full_row room less;
               runs = (more stores (Some Failed) run, inr (more (WriteTmp bytes ∷ []) (Some Failed) (room_is (λ n. n < length bytes → Runs seen left_since (WriteTmp bytes ∷ []) (Some Failed) b c) room (λ same. absurd (omega (arith, same))) overfull less)));
-            }
-            | inr enough ↦ record {
+            })
+            | inr enough ↦ inr (record {
               found = found room;
               is_found = is_found (seen a).told (folder_of place) names [] room directory;
               handling = done;
               row = done_row room enough;
               runs = (more stores (Some Failed) run, inl tt);
-            }
+            })
           ]
-      stored_refused (Full need free) is_full overfull run early =
+      stored_refused (Full need free) is_full overfull run early memory =
           let full_is = is_full need free refl in
           let room : free ≡ (found free).room = room_is (λ n. free ≡ n) free refl full_is.free_is in
           let less : (found free).room < length bytes = omega (arith, room, full_is.less, full_is.needed) in
-          record {
+          inr (record {
             found = found free;
             is_found = is_found (seen a).told (folder_of place) names [] free directory;
             handling = full (found free).room;
             row = full_row free less;
             runs = (ap (λ n. NoSpace n (found free).room) (sym full_is.needed) ∙ ap (λ n. NoSpace need n) (sym room), more (WriteTmp bytes ∷ []) (Some (Full need free)) (early (λ is. cc)));
-          }
-      stored_refused NoMemory is_full overfull run early =
-          let room = length bytes in
-          elim (cases_lt (found room).room (length bytes)) [
-            | inl less ↦ record {
-              found = found room;
-              is_found = is_found (seen a).told (folder_of place) names [] room directory;
-              handling = full (found room).room;
-              row = full_row room less;
-              runs = more (WriteTmp bytes ∷ []) (Some NoMemory) (early (λ is. cc));
-            }
-            | inr enough ↦ record {
-              found = found room;
-              is_found = is_found (seen a).told (folder_of place) names [] room directory;
-              handling = done;
-              row = done_row room enough;
-              runs = more (WriteTmp bytes ∷ []) (Some NoMemory) (early (λ is. cc));
-            }
-          ]
+          })
+      stored_refused NoMemory is_full overfull run early memory = ⊎_elim
+          (λ same. inl (wants_memory seen left_since (folder_of place) (Err NoMemory) a b c looked refl same))
+          (λ fits. inr (record {
+            found = found (length bytes);
+            is_found = is_found (seen a).told (folder_of place) names [] (length bytes) directory;
+            handling = done;
+            row = done_row (length bytes) (room_is (λ room. length bytes ≤ room) (length bytes) (omega arith) fits);
+            runs = (tt, more (WriteTmp bytes ∷ []) (Some NoMemory) (early (λ is. cc)));
+          }))
+          (memory refl)

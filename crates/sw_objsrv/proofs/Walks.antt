@@ -47,7 +47,7 @@ module _ {D : Type 0} (seen : D → Seen) (left_since : D → Past) (K : D → D
   by_row folder Row (Ok reply) a b (inr follows) = by_run _ None a b follows.runs.2
   by_row folder Row (Err refusal.Failed) a b (inr follows) = by_run _ (Some refusal.Failed) a b follows.runs.0
   by_row folder Row (Err (refusal.Full need free)) a b (inr follows) = by_run _ (Some (refusal.Full need free)) a b follows.runs.1
-  by_row folder Row (Err refusal.NoMemory) a b (inr follows) = by_run _ (Some refusal.NoMemory) a b follows.runs
+  by_row folder Row (Err refusal.NoMemory) a b (inr follows) = by_run _ (Some refusal.NoMemory) a b follows.runs.1
 
   by_no_survey : (calls : List Call) (reason : DiskRefusal) (a b : D) → StopsSurvey seen left_since calls reason a b → K a b
   by_no_survey [] reason a b want = subst (K a) (sym want.1) (kept.none a)

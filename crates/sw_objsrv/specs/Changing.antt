@@ -88,7 +88,7 @@ abbrev pub RunsAfterLook : {D : Type 0} → (D → Seen) → (D → Past) → Re
 RunsAfterLook seen left_since reply calls (Ok given) old new = IsAnswer given × (reply ≡ given) × Runs seen left_since calls None old new
 RunsAfterLook seen left_since reply calls (Err (Full need free)) old new = ⊥
 RunsAfterLook seen left_since reply calls (Err Failed) old new = IsAnswer reply × Runs seen left_since calls (Some Failed) old new
-RunsAfterLook seen left_since reply calls (Err NoMemory) old new = Runs seen left_since (take 1 calls) (Some NoMemory) old new
+RunsAfterLook seen left_since reply calls (Err NoMemory) old new = IsAnswer reply × Runs seen left_since (take 1 calls) (Some NoMemory) old new
 
 -- of a folder with these names
 pub record FollowsLook {D : Type 0} (seen : D → Seen) (left_since : D → Past) (folder : List ℕ) (Row : Found → Handling → Type 0) (names : List FileName) (result : Result Reply DiskRefusal) (old new : D) : Type 0 where

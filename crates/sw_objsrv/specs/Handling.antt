@@ -53,7 +53,8 @@ IsStamped other = ⊤
 -- ---- device calls
 
 -- The calls of a handling run. A failure stops them, the first of them behind the look where the bytes would not fit. A full disk, with
--- the reply of the table, and want of memory do so at the look or at the call behind it, before any that changes something is done.
+-- the reply of the table, and want of memory, where the table's reply is another one than a full disk, do so at the look or at the call
+-- behind it, before any that changes something is done.
 abbrev pub RunsHandling : {D : Type 0} → (D → Seen) → (D → Past) → Handling → Result Reply DiskRefusal → D → D → Type 0
 RunsHandling seen left_since handling (Ok reply) old new = IsAnswer reply × (handling.reply ≡ reply) × Runs seen left_since handling.calls None old new
 RunsHandling seen left_since handling (Err refusal.Failed) old new =
@@ -61,7 +62,7 @@ RunsHandling seen left_since handling (Err refusal.Failed) old new =
 RunsHandling seen left_since handling (Err (refusal.Full need free)) old new =
     (handling.reply ≡ NoSpace need free) × Runs seen left_since (take 2 handling.calls) (Some (refusal.Full need free)) old new
 RunsHandling seen left_since handling (Err refusal.NoMemory) old new =
-    Runs seen left_since (take 2 handling.calls) (Some refusal.NoMemory) old new
+    IsAnswer handling.reply × Runs seen left_since (take 2 handling.calls) (Some refusal.NoMemory) old new
 
 -- the last of these calls was refused, or memory was wanted before or behind it
 abbrev pub StopsAt : {D : Type 0} → (D → Seen) → (D → Past) → List Call → Result Reply DiskRefusal → D → D → Type 0

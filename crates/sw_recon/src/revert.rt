@@ -105,7 +105,7 @@ impl<'a> RevertJob<'a> {
         take_in(is_open, &mut self.unread, answer);
     }
 
-    // Reads the answer that was taken, if there is one. Where memory is wanted it is kept.
+    // Reads the answer that was taken, if there is one. Memory is wanted for the first answer alone, which is kept then.
     pub(crate) fn read(&mut self) -> Result<(), NoMemory>
         ensures stands { (begun : Begun) (past : List Step) → Stands self.old begun past → Stands self.new begun past }
         ensures read { OnOk result (self.new.unread ≡ None) }
@@ -113,6 +113,7 @@ impl<'a> RevertJob<'a> {
         ensures waiting { self.new.is_waiting ≡ self.old.is_waiting }
         ensures count { length self.new.tickets ≡ length self.old.tickets }
         ensures refused { OnErr result (self.new ≡ self.old) }
+        ensures memory { OnErr result (self.old.status ≡ Status.Starts) }
     {
         read_answer(
             self.alloc,

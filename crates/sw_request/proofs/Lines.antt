@@ -25,13 +25,17 @@ digits_stay : (digits : List ℕ) → AllDigits 10 digits → list_any ends_line
 digits_stay [] all = refl
 digits_stay (digit ∷ digits) all = or_from (ends_line digit) (list_any ends_line digits) (digit_stays digit all.0) (digits_stay digits all.1)
 
+-- a number is printed within a line
+pub decimal_line : (number : ℕ) → number < 2 ^ 64 → IsInLine (decimal number)
+decimal_line number small = digits_stay (decimal number) (decimal_is_IsNumeral number small).0.1
+
 abbrev IsLineField : Field → Type 0
 IsLineField field = IsInLine field.0 × IsInLine field.1
 
 -- the fields of a text of so many bytes, and others
 word_lines : (size : ℕ) (further : List Field) → size < 2 ^ 64 → AreInLines further → AreInLines ((codes "Content-Length", decimal size) ∷ (codes "Content-Type", codes "text/plain") ∷ further)
 word_lines size further small lines =
-    All-cons IsLineField (codes "Content-Length", decimal size) ((codes "Content-Type", codes "text/plain") ∷ further) (refl, digits_stay (decimal size) (decimal_is_IsNumeral size small).0.1)
+    All-cons IsLineField (codes "Content-Length", decimal size) ((codes "Content-Type", codes "text/plain") ∷ further) (refl, decimal_line size small)
     (All-cons IsLineField (codes "Content-Type", codes "text/plain") further (refl, refl) lines)
 
 pub word_lines_of : (fields further : List Field) (size : ℕ) → fields ≡ (codes "Content-Length", decimal size) ∷ (codes "Content-Type", codes "text/plain") ∷ further → size < 2 ^ 64 → AreInLines further → AreInLines fields

@@ -20,7 +20,7 @@ mod target;
 
 pub use crate::closing::asks_to_close;
 pub use crate::judging::{Verdict, judge};
-pub use crate::method::Method;
+pub use crate::method::{Method, is_head};
 pub use crate::refusal::{BadInput, Refusal};
 pub use crate::request::Request;
 pub use crate::response::{refusal_answer, refused, word_answer};

@@ -42,7 +42,7 @@ pub(crate) fn is_put(head: &RequestHead) -> bool
 }
 
 /// Whether a request asks for the head of an answer alone.
-pub(crate) fn is_head(head: &RequestHead) -> bool
+pub fn is_head(head: &RequestHead) -> bool
     ensures { result ≡ is_head head.now }
 {
     head.method() == b"HEAD".as_slice()

@@ -8,7 +8,7 @@ ghost use Rattle.sw_request.specs.Response.{allow_fields, is_closing, refusal_an
 
 use crate::refusal::{BadInput, Refusal};
 use std::alloc::Global;
-use sw_httpwrite::Answer;
+use sw_httpwrite::{Answer, field, number_field};
 use sw_types::{Bytes, NoMemory};
 
 /// An answer whose body is a word and a line feed. To a HEAD it has the fields of one to a GET, and no body (RFC 9110, section
@@ -49,24 +49,11 @@ fn word_fields(
     ensures { IfOk result (λ fields. fields.items ≡ (codes "Content-Length", decimal size) ∷ type_field (codes "text/plain") ∷ further.items) }
 {
     let mut further = further;
-    let size = format!(in alloc; "{size}")?;
     let mut fields = Vec::with_capacity(alloc, 2 + further.len())?;
-    fields.push((
-        Bytes::from_slice(alloc, b"Content-Length")?,
-        Bytes::from(size.into_bytes()),
-    ))?;
+    fields.push(number_field(alloc, b"Content-Length", size as u64)?)?;
     fields.push(field(alloc, b"Content-Type", b"text/plain")?)?;
     fields.append(&mut further)?;
     Ok(fields)
-}
-
-fn field(alloc: Global, name: &[u8], value: &[u8]) -> Result<(Bytes, Bytes), NoMemory>
-    ensures { IfOk result (λ field. field ≡ (name.now, value.now)) }
-{
-    Ok((
-        Bytes::from_slice(alloc, name)?,
-        Bytes::from_slice(alloc, value)?,
-    ))
 }
 
 /// The answer to what is refused. The connection is closed behind it where the refusal wants that, or where `close` does.

@@ -1,9 +1,9 @@
-use Rattle.std.proofs.Common.{◌≡◌, ◌≤◌, ℕ, [], ◌∷◌, List, Option, None, Some, Result, Err, IsErrOf, length, subst, sym, ap, ◌∙◌, arith}
+use Rattle.std.proofs.Common.{◌≡◌, ◌≤◌, ◌↔◌, ℕ, [], ◌∷◌, List, Option, None, Some, Result, Err, IsErrOf, length, refl, subst, sym, ap, inl, inr, ◌∙◌, arith}
 use Rattle.std.proofs.lemmas.Result.{err_from_is_err_and}
 use Rattle.sw_disk.specs.Answers.{IsFull}
 use Rattle.sw_disk.specs.Calls.{PublishTmp, SyncDir, SyncTmp, WriteTmp}
 use Rattle.sw_disk.specs.Folder.{File, content_at, files_of}
-use Rattle.sw_disk.specs.Runs.{IfTold, Runs, refusal_of}
+use Rattle.sw_disk.specs.Runs.{IfTold, IsUntouched, Past, Runs, Seen, refusal_of}
 use Rattle.sw_disk.specs.State.{State, free_of}
 use Rattle.sw_disk.specs.declared.refusal.DiskRefusal.{DiskRefusal}
 use Rattle.sw_disk.specs.declared.refusal.DiskRefusal.TheVariants.{Full, NoMemory}
@@ -109,3 +109,21 @@ pub returns-clause-overfull : goal.returns-clause-overfull
 returns-clause-overfull g c = λ reason is.
     let fits = subst (λ (o : Option State). IfTold o (λ s. length c.args.bytes.now ≤ free_of s)) c.in_ok-ready.ensures.untouched.told c.in_ok-write_tmp.ensures.fits in
     told_map (g.D.Disk.seen c.args.disk.now).told (λ s. length c.args.bytes.now ≤ free_of s) _ fits (λ s enough less. absurd (omega (arith, enough, less)))
+
+untouched : {D : Type 0} (seen : D → Seen) (left_since : D → Past) (disk : D) → IsUntouched seen left_since disk disk
+untouched seen left_since disk = record { told = refl; faults = refl; moment = refl; left = λ t folder image. (λ left. left, λ left. left) }
+
+pub returns-in_err-text-clause-memory : goal.returns-in_err-text-clause-memory
+returns-in_err-text-clause-memory g c = λ is. inl (untouched g.D.Disk.seen g.D.Disk.left_since c.args.disk.now)
+
+pub returns-in_err-ready-clause-memory : goal.returns-in_err-ready-clause-memory
+returns-in_err-ready-clause-memory g c = λ is. inl c.in_err-ready.ensures.untouched
+
+pub returns-in_err-write_tmp-clause-memory : goal.returns-in_err-write_tmp-clause-memory
+returns-in_err-write_tmp-clause-memory g c = λ is.
+    let p = err_from_is_err_and c.from_residual-in_err-write_tmp.result c.from_residual-in_err-write_tmp.ensures.1 in
+    let wants = subst (λ r. IsErrOf r NoMemory) (p.1 ∙ ap Err p.2) is in
+    inr (subst (λ (o : Option State). IfTold o (λ s. length c.args.bytes.now ≤ free_of s)) c.in_ok-ready.ensures.untouched.told (c.in_err-write_tmp.ensures.memory wants))
+
+pub returns-clause-memory : goal.returns-clause-memory
+returns-clause-memory g c = λ is. inr (subst (λ (o : Option State). IfTold o (λ s. length c.args.bytes.now ≤ free_of s)) c.in_ok-ready.ensures.untouched.told c.in_ok-write_tmp.ensures.fits)

@@ -67,10 +67,10 @@ returns-in_err-store-clause-handles g c =
     let due = c.in_default.ensures in
     let within = told_each (g.D.Disk.seen a).told (λ (folder : List ℕ) s. size_of (s.folder folder) ≤ s.used) (g.met.D.Disk.within a) in
     let reason = c.in_err-store.field-0.0 in
-    rw (p.1, p.2) (inr (stored_refused c.args.stamp c.args.index c.in_ok-looked.looked.dir due.1 due.2 c.args.cluster.now place c.args.bytes.now due.0 g.D.Disk.seen g.D.Disk.left_since a b c.store.new.disk
+    rw (p.1, p.2) (stored_refused c.args.stamp c.args.index c.in_ok-looked.looked.dir due.1 due.2 c.args.cluster.now place c.args.bytes.now due.0 g.D.Disk.seen g.D.Disk.left_since a b c.store.new.disk
     c.in_ok-looked.ensures.directory within c.in_ok-looked.ensures.runs reason (λ need free is. c.in_err-store.ensures.full need free (ap (λ (r : DiskRefusal). err r) is)) (c.in_err-store.ensures.overfull reason refl)
     (subst (λ (folder : List ℕ). Runs g.D.Disk.seen g.D.Disk.left_since (store_calls folder (plain_text c.args.stamp c.args.index) c.args.bytes.now) (Some reason) b c.store.new.disk) (c.deref.ensures ∙ c.in_ok-looked.ensures.folder) c.in_err-store.ensures.runs)
-    (c.in_err-store.ensures.early reason refl)))
+    (c.in_err-store.ensures.early reason refl) (λ is. c.in_err-store.ensures.memory (ap (λ (r : DiskRefusal). err r) is)))
 
 pub returns-in_err-store-clause-unmade : goal.returns-in_err-store-clause-unmade
 returns-in_err-store-clause-unmade g c = λ reason is other.
