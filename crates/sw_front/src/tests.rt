@@ -1,22 +1,29 @@
-//! Operations over a link of no cluster.
+//! Operations over a link of no cluster, and requests that are answered over it.
 
-use crate::{FrontFault, delete, get, put};
+ghost use Rattle.std.specs.Prelude.{IfOk};
+ghost use Rattle.sw_request.specs.Body.{IsSound};
+
+use crate::{FrontFault, answer, delete, get, put};
 use std::alloc::Global;
 use std::test::Fail;
 use sw_delete::DeleteEnd;
 use sw_get::GetEnd;
-use sw_hashdir::Listing;
+use sw_hashdir::{Floor, FloorKind, Listing};
+use sw_httpread::{Carry, HeadNext, next_head};
+use sw_io::MemConn;
 use sw_message::{Draw, DrawFault, Link, Msg, Reply};
 use sw_put::PutEnd;
+use sw_request::{Request, Verdict, judge};
 use sw_ring::{Cluster, built_in};
 use sw_types::{Bytes, Head, Name, Object, Stamp};
 
-// Does what it is asked, and has nothing. It tells nothing.
+// Does what it is asked, but what a floor forbids, and has nothing. It tells nothing.
 #[derive(Drop)]
 struct Obliging {
     alloc: Global,
     next: u64,
     refused: u64,
+    floor: Option<Floor>,
 }
 
 impl Link for Obliging {
@@ -35,6 +42,9 @@ impl Link for Obliging {
     ghost sound = { λ link. tt };
 
     fn call(&mut self, _device: u16, msg: &Msg) -> Option<Reply> {
+        if let (Some(floor), Msg::PutFrag { .. } | Msg::Delete { .. }) = (self.floor, msg) {
+            return Some(Reply::Superseded(floor));
+        }
         Some(match msg {
             Msg::PutFrag { .. } => Reply::Synced,
             Msg::Commit { .. } => Reply::Committed,
@@ -69,6 +79,7 @@ fn link_from(alloc: Global, next: u64) -> Obliging {
         alloc,
         next,
         refused: 0,
+        floor: None,
     }
 }
 
@@ -116,5 +127,73 @@ fn draws_no_stamp_after_the_last(rt: HostRuntime) -> Result<(), Fail> {
     assert_eq!(rt; put.err(), Some(FrontFault::StampsSpent));
     let deleted = delete(alloc, &cluster, &mut link, &name);
     assert_eq!(rt; deleted.err(), Some(FrontFault::StampsSpent));
+    Ok(())
+}
+
+// The request of a head without a defect and a body.
+fn request_of(alloc: Global, head: &str, body: &[u8]) -> Result<Request, Fail>
+    ensures { IfOk result IsSound }
+{
+    let mut conn = MemConn::new(alloc, head.as_bytes().to_vec(alloc)?);
+    let HeadNext::Head(head) = next_head(alloc, &mut conn, &mut Carry::new(alloc)) else {
+        return Err("no head".into());
+    };
+    let Verdict::Read { .. } = judge(alloc, &head)? else {
+        return Err("refused".into());
+    };
+    if body.len() > 1024 {
+        return Err("too long".into());
+    }
+    Ok(Request::new(head, Bytes::from_slice(alloc, body)?))
+}
+
+#[test]
+fn answers_requests(rt: HostRuntime) -> Result<(), Fail> {
+    let alloc = rt.alloc();
+    let cluster = Cluster::read(alloc, built_in())?;
+    let stamp = Stamp::make(100_000_000_000_000).ok_or("stamp")?;
+    let floor = Some(Floor {
+        stamp,
+        kind: FloorKind::Tombstone,
+    });
+    let put = "PUT /v1/a/c/o HTTP/1.1\r\nHost: h\r\nContent-Length: 3\r\n";
+    let other_tag = format!(in alloc; "{put}ETag: \"d41d8cd98f00b204e9800998ecf8427e\"\r\n\r\n")?;
+    let put = format!(in alloc; "{put}ETag: \"900150983CD24FB0D6963F7D28E17F72\"\r\n\r\n")?;
+    let get = "GET /v1/a/c/o HTTP/1.0\r\n\r\n";
+    let delete = "DELETE /v1/a/c/o HTTP/1.1\r\nHost: h\r\n\r\n";
+    let cases: [(&str, Option<Floor>, u64, u16, &str, bool); 7] = [
+        (&put, None, 7, 201, "", false),
+        (&put, floor, 7, 202, "Superseded 1000000000.00000\n", false),
+        (
+            &put,
+            None,
+            1_000_000_000_000_000,
+            503,
+            "StampsSpent\n",
+            false,
+        ),
+        (&other_tag, floor, 7, 422, "ETagDiffers\n", false),
+        (get, None, 7, 404, "Absent\n", true),
+        (delete, None, 7, 404, "Missing\n", false),
+        (
+            delete,
+            floor,
+            7,
+            409,
+            "Superseded 1000000000.00000\n",
+            false,
+        ),
+    ];
+    for (head, floor, next, status, body, close) in cases {
+        let mut link = Obliging {
+            floor,
+            ..link_from(alloc, next)
+        };
+        let request = request_of(alloc, head, b"abc")?;
+        let answer = answer(alloc, &cluster, &mut link, &request)?;
+        assert_eq!(rt; answer.status(), status, "of {head:?}");
+        assert_eq!(rt; answer.body(), body.as_bytes(), "of {head:?}");
+        assert_eq!(rt; answer.close(), close, "of {head:?}");
+    }
     Ok(())
 }

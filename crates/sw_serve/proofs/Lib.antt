@@ -1,0 +1,4 @@
+pub mod Asks
+pub mod Connections
+pub mod Sends
+pub mod Turns

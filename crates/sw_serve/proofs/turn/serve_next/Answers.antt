@@ -1,0 +1,25 @@
+use Rattle.std.proofs.Common.{refl, sym}
+use Rattle.sw_serve.proofs.Turns.{turn_cut, turn_fault, turn_head, turn_refused}
+use Rattle.sw_request.specs.declared.refusal.BadInput.TheVariants as bad
+use Rattle.sw_serve.proofs.turn.serve_next.Goals as goal
+
+pub returns-in-Head-clause-takes : goal.returns-in-Head-clause-takes
+returns-in-Head-clause-takes g c =
+    let takes = rw c.next_head.ensures.written at c.serve_head.ensures.takes in
+    turn_head _ _ _ _ _ c.in-Head.head _ _ _ _ _ _ _ _ _ c.in-Head.ensures.reads takes
+
+pub returns-in-Cut-clause-takes : goal.returns-in-Cut-clause-takes
+returns-in-Cut-clause-takes g c = rw c.next_head.ensures.written (turn_cut _ _ _ _ _ _ _ _ _ refl _ c.in-Cut.ensures.reads)
+
+pub returns-in-BadHead-clause-takes : goal.returns-in-BadHead-clause-takes
+returns-in-BadHead-clause-takes g c =
+    let sent = rw c.next_head.ensures.written at c.refuse.ensures.sent in
+    turn_refused _ _ _ _ _ _ _ _ _ refl _ bad.BadHead _ _ _ _ c.in-BadHead.ensures.reads c.in-BadHead.ensures.reads.outcome (sym c.refuse.ensures.remaining) sent
+
+pub returns-in-HeadTooLarge-clause-takes : goal.returns-in-HeadTooLarge-clause-takes
+returns-in-HeadTooLarge-clause-takes g c =
+    let sent = rw c.next_head.ensures.written at c.refuse-in-HeadTooLarge.ensures.sent in
+    turn_refused _ _ _ _ _ _ _ _ _ refl _ bad.HeadTooLarge _ _ _ _ c.in-HeadTooLarge.ensures.reads c.in-HeadTooLarge.ensures.reads.outcome (sym c.refuse-in-HeadTooLarge.ensures.remaining) sent
+
+pub returns-in-ReadFault-clause-takes : goal.returns-in-ReadFault-clause-takes
+returns-in-ReadFault-clause-takes g c = rw c.next_head.ensures.written (turn_fault _ _ _ _ _ _ _ _ _ refl _ c.in-ReadFault.ensures.reads)

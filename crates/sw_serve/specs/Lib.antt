@@ -1,0 +1,4 @@
+pub mod Asks
+pub mod Ends
+pub mod Serving
+pub mod Turns

@@ -1,0 +1,15 @@
+//! Connections are served: requests are read one after the other, each is answered over a link, and what ends a connection is told.
+//!
+//! [`serve_connection`] is the whole of it. `src/turn.rt` serves what comes next, `src/sending.rt` writes answers.
+#![tactic(auto)]
+
+mod end;
+mod sending;
+mod serving;
+mod turn;
+
+pub use crate::end::ConnEnd;
+pub use crate::serving::serve_connection;
+
+#[cfg(test)]
+mod tests;

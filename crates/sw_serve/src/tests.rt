@@ -1,0 +1,153 @@
+//! Connections over nodes on disks in memory, with the built-in ring.
+
+use crate::{ConnEnd, serve_connection};
+use std::alloc::Global;
+use std::process::Abort;
+use std::test::Fail;
+use sw_io::MemConn;
+use sw_ring::{Cluster, built_in};
+use sw_telling::Telling;
+use sw_types::{Bytes, Stamp};
+
+// How a connection ends on which these bytes come, so many at a time, over new nodes, and what is written. Where calls are told, those
+// behind so many fail.
+fn serve(
+    alloc: Global,
+    bytes: &[u8],
+    most: usize,
+    calls: Option<u64>,
+) -> Result<(ConnEnd, Bytes), Fail> {
+    let cluster = Cluster::read(alloc, built_in())?;
+    let clock = Stamp::make(100_000_000_000_000).ok_or("stamp")?;
+    let mut link = Telling::new(alloc, &cluster, clock)?;
+    let mut conn = MemConn::new(alloc, bytes.to_vec(alloc)?);
+    conn.give_at_most(most);
+    if let Some(calls) = calls {
+        conn.fuse(calls);
+    }
+    let end = serve_connection(alloc, &mut conn, &cluster, &mut link);
+    Ok((end, Bytes::from_slice(alloc, conn.written())?))
+}
+
+fn expect_served(
+    rt: &impl Abort,
+    alloc: Global,
+    text: &str,
+    end: ConnEnd,
+    want: &str,
+) -> Result<(), Fail> {
+    for most in [1, 7, 65_536] {
+        let (ended, written) = serve(alloc, text.as_bytes(), most, None)?;
+        assert_eq!(rt; ended, end, "of {text:?}");
+        assert_eq!(rt; written.as_slice(), want.as_bytes(), "of {text:?}");
+    }
+    Ok(())
+}
+
+// A put as curl sends it, and what comes behind it on the same connection.
+#[test]
+fn requests_one_behind_the_other(rt: HostRuntime) -> Result<(), Fail> {
+    let alloc = rt.alloc();
+    let put =
+        "PUT /v1/AUTH_test/photos/cat.jpg HTTP/1.1\r\nHost: 127.0.0.1:8080\r\nUser-Agent: curl/8.5.0\r\nAccept: */*\r\nX-Auth-Token: tk\r\nContent-Type: image/jpeg\r\n";
+    let to = "/v1/AUTH_test/photos/cat.jpg HTTP/1.1\r\nHost: h\r\n";
+    let text = format!(in alloc;
+        "{put}Content-Length: 3\r\nExpect: 100-continue\r\n\r\nabcGET {to}\r\n{put}Transfer-Encoding: chunked\r\n\r\n3\r\nabc\r\n0\r\n\r\nHEAD {to}\r\nDELETE {to}\r\nGET {to}Connection: close\r\n\r\nGET {to}"
+    )?;
+    let created =
+        "HTTP/1.1 201 Created\r\nContent-Length: 0\r\nETag: 900150983cd24fb0d6963f7d28e17f72\r\nX-Timestamp: 1000000000.0000";
+    let found =
+        "HTTP/1.1 200 OK\r\nContent-Length: 3\r\nContent-Type: image/jpeg\r\nETag: 900150983cd24fb0d6963f7d28e17f72\r\nX-Timestamp: 1000000000.0000";
+    let want = format!(in alloc;
+        "HTTP/1.1 100 Continue\r\n\r\n{created}0\r\nX-Commits: 3\r\n\r\n{found}0\r\n\r\nabc{created}1\r\nX-Commits: 3\r\n\r\n{found}1\r\n\r\nHTTP/1.1 204 No Content\r\n\r\nHTTP/1.1 404 Not Found\r\nContent-Length: 24\r\nContent-Type: text/plain\r\nConnection: close\r\n\r\nBuried 1000000000.00002\n"
+    )?;
+    expect_served(&rt, alloc, &text, ConnEnd::Closed, &want)
+}
+
+#[test]
+fn refusals(rt: HostRuntime) -> Result<(), Fail> {
+    let alloc = rt.alloc();
+    let cases = [
+        (
+            "PUT /v1/a/c/o HTTP/1.1\r\nHost: h\r\nContent-Length: 3\r\nETag: d41d8cd98f00b204e9800998ecf8427e\r\n\r\nabc",
+            "422 Unprocessable Entity\r\nContent-Length: 12\r\nContent-Type: text/plain\r\n\r\nETagDiffers\n",
+        ),
+        (
+            "GET /v1/a/c/%zz HTTP/1.1\r\nHost: h\r\n\r\nGET /v1/a/c/o HTTP/1.1\r\nHost: h\r\n\r\n",
+            "412 Precondition Failed\r\nContent-Length: 10\r\nContent-Type: text/plain\r\nConnection: close\r\n\r\nBadEscape\n",
+        ),
+        (
+            "GET / HTTP/9\r\n\r\n",
+            "400 Bad Request\r\nContent-Length: 8\r\nContent-Type: text/plain\r\nConnection: close\r\n\r\nBadHead\n",
+        ),
+        (
+            "HEAD /v1/a/c/o HTTP/1.1\r\nHost: h\r\nTransfer-Encoding: chunked\r\n\r\n3\r\nabcd\r\n",
+            "400 Bad Request\r\nContent-Length: 9\r\nContent-Type: text/plain\r\nConnection: close\r\n\r\n",
+        ),
+        (
+            "PUT /v1/a/c/o HTTP/1.1\r\nHost: h\r\nTransfer-Encoding: chunked\r\n\r\n1000001\r\n",
+            "413 Payload Too Large\r\nContent-Length: 9\r\nContent-Type: text/plain\r\nConnection: close\r\n\r\nTooLarge\n",
+        ),
+    ];
+    for (text, answer) in cases {
+        let want = format!(in alloc; "HTTP/1.1 {answer}")?;
+        expect_served(&rt, alloc, text, ConnEnd::Closed, &want)?;
+    }
+    Ok(())
+}
+
+#[test]
+fn ends_within_a_request(rt: HostRuntime) -> Result<(), Fail> {
+    let alloc = rt.alloc();
+    let head =
+        "PUT /v1/a/c/o HTTP/1.1\r\nHost: h\r\nContent-Length: 3\r\nExpect: 100-continue\r\n\r\n";
+    let cases = [
+        ("", ConnEnd::Closed, ""),
+        ("\r\n\r\n", ConnEnd::Closed, ""),
+        ("GET", ConnEnd::Cut, ""),
+    ];
+    for (text, end, want) in cases {
+        expect_served(&rt, alloc, text, end, want)?;
+    }
+    let leave = "HTTP/1.1 100 Continue\r\n\r\n";
+    let cut = format!(in alloc; "{head}ab")?;
+    expect_served(&rt, alloc, &cut, ConnEnd::Cut, leave)?;
+    // The calls: a read, a write of the leave, a read of the body, a write of the answer.
+    let cases = [
+        (0, ConnEnd::ReadFault, ""),
+        (1, ConnEnd::WriteFault, ""),
+        (2, ConnEnd::ReadFault, leave),
+    ];
+    for (calls, end, want) in cases {
+        let (ended, written) = serve(alloc, head.as_bytes(), 65_536, Some(calls))?;
+        assert_eq!(rt; ended, end);
+        assert_eq!(rt; written.as_slice(), want.as_bytes());
+    }
+    Ok(())
+}
+
+// A thousand requests are answered on a connection, and the last answer says that it is closed.
+#[test]
+fn a_thousand_requests(rt: HostRuntime) -> Result<(), Fail> {
+    let alloc = rt.alloc();
+    let request = b"PUT /v1/a/c/o HTTP/1.1\r\nHost: h\r\nContent-Length: 0\r\nETag: 0\r\n\r\n";
+    let answer =
+        "HTTP/1.1 422 Unprocessable Entity\r\nContent-Length: 12\r\nContent-Type: text/plain\r\n";
+    let (mut text, mut want) = (Vec::new(alloc), Vec::new(alloc));
+    for number in 1..=1001 {
+        text.extend_from_slice(request)?;
+        let close = if number == 1000 {
+            "Connection: close\r\n"
+        } else {
+            ""
+        };
+        if number <= 1000 {
+            let answer = format!(in alloc; "{answer}{close}\r\nETagDiffers\n")?;
+            want.extend_from_slice(answer.as_bytes())?;
+        }
+    }
+    let (ended, written) = serve(alloc, &text, 65_536, None)?;
+    assert_eq!(rt; ended, ConnEnd::Closed);
+    assert_eq!(rt; written.as_slice(), want.as_slice());
+    Ok(())
+}
