@@ -1,3 +1,4 @@
+pub mod Alike
 pub mod Asks
 pub mod Connections
 pub mod Sends

@@ -4,11 +4,13 @@
 #![tactic(auto)]
 
 mod end;
+mod laws;
 mod sending;
 mod serving;
 mod turn;
 
 pub use crate::end::ConnEnd;
+pub use crate::laws::asked_law;
 pub use crate::serving::serve_connection;
 
 #[cfg(test)]
