@@ -1,6 +1,5 @@
 -- An operation that has handed out nothing may begin over a link of its cluster.
-use Rattle.std.proofs.Common.{◌≡◌, ℕ, Contains, List, Option, Some, None, Result, Ok, Err, refl}
-use Rattle.std.specs.Prelude.{IfOk}
+use Rattle.std.proofs.Common.{◌≡◌, ℕ, List, Option, Some, None, refl}
 use Rattle.std.proofs.lemmas.Option.{none-some, same_Some}
 use Rattle.sw_types.specs.Name.{NameModel}
 use Rattle.sw_types.specs.Object.{ObjectModel}

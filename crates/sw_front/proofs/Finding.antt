@@ -1,5 +1,5 @@
 -- What a get finds over a link that tells is one put's whole object.
-use Rattle.std.proofs.Common.{◌≡◌, List, Option, Some, None, refl, sym, subst}
+use Rattle.std.proofs.Common.{List, Option, Some, None, refl}
 use Rattle.sw_ring.specs.Cluster.{ClusterModel}
 use Rattle.sw_message.specs.Learnt.{IsSoundBook, KnowsReplies, Learnt, Nothing}
 use Rattle.sw_message.specs.Running.{MayRun, TellsSoundly}

@@ -1,5 +1,5 @@
 -- What went over a link before memory was wanted, or before no stamp was drawn.
-use Rattle.std.proofs.Common.{◌≡◌, ℕ, true≢false, List, Option, Some, None, Result, Ok, Err, refl, sym, subst}
+use Rattle.std.proofs.Common.{◌≡◌, ℕ, true≢false, List, Some, None, Result, Ok, Err, sym}
 use Rattle.std.specs.Prelude.{IsErr, IsErrAnd}
 use Rattle.sw_types.specs.Name.{NameModel}
 use Rattle.sw_types.specs.Object.{ObjectModel}

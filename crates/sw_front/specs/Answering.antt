@@ -5,6 +5,7 @@ use Rattle.sw_types.specs.Name.{NameModel}
 use Rattle.sw_types.specs.Object.{ObjectModel, object_of}
 use Rattle.sw_types.specs.declared.memory.NoMemory.{NoMemory as Refused}
 use Rattle.sw_ring.specs.Cluster.{ClusterModel}
+use Rattle.sw_message.specs.Running.{StillTells}
 use Rattle.sw_httpwrite.specs.Answer.{AnswerModel}
 use Rattle.sw_request.specs.Body.{RequestModel, has_other_tag}
 use Rattle.sw_request.specs.Fields.{AsksToClose}
@@ -22,13 +23,14 @@ use Rattle.sw_front.specs.Over.{Calling, DeletesOver, Drawing, GetsOver, Learnin
 use Rattle.sw_front.specs.declared.fault.FrontFault.{FrontFault}
 use Rattle.sw_front.specs.declared.fault.FrontFault.TheVariants.{StampsSpent}
 
--- what a link is to contracts: what its draws and calls may do, its counts, and what it has learnt
+-- what a link is to contracts: what its draws and calls may do, its counts, what it has learnt, and whether it may be silent
 pub record Ways (L : Type 0) : Type 1 where
   pub draws : Drawing L
   pub calls : Calling L
   pub losses : L → ℕ
   pub refusals : L → ℕ
   pub learnt : Learning L
+  pub may_be_silent : L → Type 0
 
 module _ {L : Type 0} (ways : Ways L) (cluster : ClusterModel) where
   -- ---- the operations
@@ -82,7 +84,9 @@ module _ {L : Type 0} (ways : Ways L) (cluster : ClusterModel) where
   Refuses request close before (Ok answer) after = (has_other_tag request ≡ true) × (answer ≡ refusal_answer false close ETagDiffers) × (after ≡ before)
   Refuses request close before (Err refused) after = after ≡ before
 
-  -- The answer to a request; it says whether the connection is to be closed as the request asks.
+  -- The answer to a request; it says whether the connection is to be closed as the request asks. The link keeps what it has learnt, or
+  -- is silent where it may be.
   abbrev pub Answers : RequestModel → (before : L) → Result AnswerModel Refused → (after : L) → Type 0
   Answers request before result after =
-      (close : Bool) × (IsTrue close ↔ AsksToClose request.head) × (Refuses request close before result after ⊎ Operates request close before result after)
+      StillTells (ways.may_be_silent after) (ways.learnt before) (ways.learnt after)
+      × (close : Bool) × (IsTrue close ↔ AsksToClose request.head) × (Refuses request close before result after ⊎ Operates request close before result after)

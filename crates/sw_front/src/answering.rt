@@ -31,7 +31,7 @@ pub fn answer<L: Draw>(
 ) -> Result<Answer, NoMemory>
     requires sound { IsSound request.now }
     requires cluster { (of : ClusterModel) → L.cluster link.old ≡ Some of → cluster.now ≡ of }
-    ensures answers { Answers (record { draws = L.draws; calls = L.calls; losses = L.losses; refusals = L.refusals; learnt = L.learnt }) cluster.now request.now link.old result link.new }
+    ensures answers { Answers (record { draws = L.draws; calls = L.calls; losses = L.losses; refusals = L.refusals; learnt = L.learnt; may_be_silent = L.may_be_silent }) cluster.now request.now link.old result link.new }
     ensures tells { StillTells (L.may_be_silent link.new) (L.learnt link.old) (L.learnt link.new) }
     ensures silence { L.may_be_silent link.old → L.may_be_silent link.new }
     ensures cluster { L.cluster link.new ≡ L.cluster link.old }
@@ -62,7 +62,7 @@ fn answer_put<L: Draw>(
     close: bool,
 ) -> Result<Answer, NoMemory>
     requires { (of : ClusterModel) → L.cluster link.old ≡ Some of → cluster.now ≡ of }
-    ensures answers { PutAnswers (record { draws = L.draws; calls = L.calls; losses = L.losses; refusals = L.refusals; learnt = L.learnt }) cluster.now name.now object.now close link.old result link.new }
+    ensures answers { PutAnswers (record { draws = L.draws; calls = L.calls; losses = L.losses; refusals = L.refusals; learnt = L.learnt; may_be_silent = L.may_be_silent }) cluster.now name.now object.now close link.old result link.new }
     ensures tells { StillTells (L.may_be_silent link.new) (L.learnt link.old) (L.learnt link.new) }
     ensures silence { L.may_be_silent link.old → L.may_be_silent link.new }
     ensures cluster { L.cluster link.new ≡ L.cluster link.old }
@@ -84,7 +84,7 @@ fn answer_get<L: Draw>(
     close: bool,
 ) -> Result<Answer, NoMemory>
     requires { (of : ClusterModel) → L.cluster link.old ≡ Some of → cluster.now ≡ of }
-    ensures answers { GetAnswers (record { draws = L.draws; calls = L.calls; losses = L.losses; refusals = L.refusals; learnt = L.learnt }) cluster.now name.now to_head close link.old result link.new }
+    ensures answers { GetAnswers (record { draws = L.draws; calls = L.calls; losses = L.losses; refusals = L.refusals; learnt = L.learnt; may_be_silent = L.may_be_silent }) cluster.now name.now to_head close link.old result link.new }
     ensures tells { StillTells (L.may_be_silent link.new) (L.learnt link.old) (L.learnt link.new) }
     ensures silence { L.may_be_silent link.old → L.may_be_silent link.new }
     ensures cluster { L.cluster link.new ≡ L.cluster link.old }
@@ -102,7 +102,7 @@ fn answer_delete<L: Draw>(
     close: bool,
 ) -> Result<Answer, NoMemory>
     requires { (of : ClusterModel) → L.cluster link.old ≡ Some of → cluster.now ≡ of }
-    ensures answers { DeleteAnswers (record { draws = L.draws; calls = L.calls; losses = L.losses; refusals = L.refusals; learnt = L.learnt }) cluster.now name.now close link.old result link.new }
+    ensures answers { DeleteAnswers (record { draws = L.draws; calls = L.calls; losses = L.losses; refusals = L.refusals; learnt = L.learnt; may_be_silent = L.may_be_silent }) cluster.now name.now close link.old result link.new }
     ensures tells { StillTells (L.may_be_silent link.new) (L.learnt link.old) (L.learnt link.new) }
     ensures silence { L.may_be_silent link.old → L.may_be_silent link.new }
     ensures cluster { L.cluster link.new ≡ L.cluster link.old }

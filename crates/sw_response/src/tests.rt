@@ -146,6 +146,13 @@ fn deletes(rt: HostRuntime) -> Result<(), Fail> {
             "HTTP/1.1 404 Not Found\r\nContent-Length: 8\r\nContent-Type: text/plain\r\n\r\nMissing\n",
         ),
         (
+            DeleteEnd::TooFewMarks {
+                have: 1,
+                misses: misses(alloc, Miss::NoReply)?,
+            },
+            "HTTP/1.1 503 Service Unavailable\r\nContent-Length: 12\r\nContent-Type: text/plain\r\n\r\nTooFewMarks\n",
+        ),
+        (
             DeleteEnd::Superseded { floor: floor()? },
             "HTTP/1.1 409 Conflict\r\nContent-Length: 28\r\nContent-Type: text/plain\r\n\r\nSuperseded 1000000000.00000\n",
         ),
@@ -155,4 +162,41 @@ fn deletes(rt: HostRuntime) -> Result<(), Fail> {
         expect_written(&rt, alloc, &answer, want)?;
     }
     Ok(())
+}
+
+// Where rounds were used up, too few are there, no stamp was left, or memory was wanted.
+#[test]
+fn others(rt: HostRuntime) -> Result<(), Fail> {
+    let alloc = rt.alloc();
+    let few = GetEnd::TooFew {
+        stamp: stamp()?,
+        have: 1,
+    };
+    let answer = get_answer(alloc, false, false, few)?;
+    expect_written(
+        &rt,
+        alloc,
+        &answer,
+        "HTTP/1.1 503 Service Unavailable\r\nContent-Length: 7\r\nContent-Type: text/plain\r\n\r\nTooFew\n",
+    )?;
+    let events = Items::from(Vec::new(alloc));
+    let answer = get_answer(alloc, false, false, GetEnd::Overtaken { events })?;
+    expect_written(
+        &rt,
+        alloc,
+        &answer,
+        "HTTP/1.1 503 Service Unavailable\r\nContent-Length: 10\r\nContent-Type: text/plain\r\n\r\nOvertaken\n",
+    )?;
+    expect_written(
+        &rt,
+        alloc,
+        &spent_answer(alloc, false)?,
+        "HTTP/1.1 503 Service Unavailable\r\nContent-Length: 12\r\nContent-Type: text/plain\r\n\r\nStampsSpent\n",
+    )?;
+    expect_written(
+        &rt,
+        alloc,
+        &wanting_answer(alloc, true)?,
+        "HTTP/1.1 500 Internal Server Error\r\nContent-Length: 9\r\nContent-Type: text/plain\r\nConnection: close\r\n\r\n",
+    )
 }

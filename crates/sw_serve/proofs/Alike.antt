@@ -1,14 +1,15 @@
 -- Bytes begin with one thing that is asked.
-use Rattle.std.proofs.Common.{◌≡◌, Bool, true, false, List, ℕ, Some, None, inl, inr, refl, sym, ap, subst, ◌∙◌}
-use Rattle.sw_httpread.specs.Bodies.{Decides}
+use Rattle.std.proofs.Common.{◌≡◌, Bool, true, false, List, ℕ, Option, Some, None, inl, inr, refl, sym, ap, subst, ◌∙◌}
+use Rattle.sw_httpread.specs.Bodies.{Decides, LeavesOpen}
+use Rattle.sw_httpread.specs.Ends.{IsUnended}
 use Rattle.sw_httpread.specs.Heads.{IsHeadNext}
+use Rattle.sw_httpread.specs.Lines.{IsWholeHead}
 use Rattle.sw_httpread.specs.Request.{RequestHeadModel}
-use Rattle.sw_httpread.specs.declared.body.BodyNext.{BodyNext}
 use Rattle.sw_httpread.specs.declared.body.BodyNext.TheVariants as body
 use Rattle.sw_httpread.specs.declared.body.Framing.{Framing}
 use Rattle.sw_httpread.specs.declared.head.HeadNext.TheVariants as head
-use Rattle.sw_httpread.proofs.BodyLaws.{body_one}
-use Rattle.sw_httpread.proofs.HeadLaws.{head_one}
+use Rattle.sw_httpread.proofs.BodyLaws.{body_one, body_undecided}
+use Rattle.sw_httpread.proofs.HeadLaws.{head_one, head_open}
 use Rattle.sw_httpwrite.specs.Answer.{AnswerModel}
 use Rattle.sw_request.specs.Body.{RequestModel}
 use Rattle.sw_request.specs.Framing.{framing_of, is_waiting}
@@ -18,6 +19,7 @@ use Rattle.sw_request.specs.declared.refusal.BadInput.{BadInput}
 use Rattle.sw_request.specs.declared.refusal.BadInput.TheVariants as bad
 use Rattle.sw_request.specs.declared.refusal.Refusal.{Refusal}
 use Rattle.sw_serve.specs.Asks.{Asked, BeginsWith, IsAsked, IsNoBody, IsNoHead, Refused, RefusesHeadOf, Whole}
+use Rattle.sw_serve.specs.Serving.{IsOpen}
 
 -- what two readings of the same bytes have in common
 abbrev AreAlike : (asked other : Asked) → (waits waits' : Bool) → (x y : List ℕ) → Type 0
@@ -146,3 +148,39 @@ asked_one bytes x y (Whole h) (Whole k) waits waits' a b = whole_whole bytes x y
 asked_one bytes x y (Whole h) (Refused answer) waits waits' a b = absurd (whole_refused bytes x y waits waits' h answer a b)
 asked_one bytes x y (Refused answer) (Whole k) waits waits' a b = absurd (whole_refused bytes y x waits' waits k answer b a)
 asked_one bytes x y (Refused answer) (Refused other) waits waits' a b = refused_refused bytes x y waits waits' answer other a b
+
+-- ---- bytes of no whole request
+
+-- no head has come whole
+no_head_yet : (bytes unused : List ℕ) (asked : Asked) (waits : Bool) → IsUnended IsWholeHead bytes → IsAsked bytes asked waits unused → ⊥
+no_head_yet bytes unused (Whole request) waits undecided is = head_open bytes is.1 None (head.Head request.head) undecided tt is.2.reads
+no_head_yet bytes unused (Refused answer) waits undecided (inl (none, inr refused)) = head_open bytes unused None (head.Head refused.0) undecided tt refused.1.reads
+no_head_yet bytes unused (Refused answer) waits undecided (inr refused) = head_open bytes refused.2 None (head.Head refused.0) undecided tt refused.3.reads
+no_head_yet bytes unused (Refused answer) waits undecided (inl (none, inl (bad.BadHead, is, same))) = head_open bytes unused None head.BadHead undecided tt is
+no_head_yet bytes unused (Refused answer) waits undecided (inl (none, inl (bad.HeadTooLarge, is, same))) = head_open bytes unused None head.HeadTooLarge undecided tt is
+no_head_yet bytes unused (Refused answer) waits undecided (inl (none, inl (bad.BadChunk, is, same))) = absurd is
+no_head_yet bytes unused (Refused answer) waits undecided (inl (none, inl (bad.TooLarge, is, same))) = absurd is
+
+no_body_yet : (how : Framing) (bytes rest unused : List ℕ) (why : BadInput) → LeavesOpen how bytes rest → IsNoBody how bytes why unused → ⊥
+no_body_yet how bytes rest unused bad.BadChunk undecided is = body_undecided how bytes rest unused body.BadChunk undecided is
+no_body_yet how bytes rest unused bad.TooLarge undecided is = body_undecided how bytes rest unused body.TooLarge undecided is
+no_body_yet how bytes rest unused bad.BadHead undecided is = absurd is
+no_body_yet how bytes rest unused bad.HeadTooLarge undecided is = absurd is
+
+-- a head without a defect has, and no whole body behind it
+module _ (bytes unused : List ℕ) (h : RequestHeadModel) (how : Framing) (waits' : Bool) (middle rest : List ℕ) (begins : BeginsWith bytes h how waits' middle) (undecided : LeavesOpen how middle rest) where
+  not_whole : (asked : Asked) (waits : Bool) → IsAsked bytes asked waits unused → ⊥
+  not_whole (Whole request) waits is =
+      let same = same_beginning bytes h request.head how is.0 waits' waits middle is.1 begins is.2 in
+      let there = subst (λ (f : Framing). Decides f is.1 (body.Body request.body) unused) (sym same.how_is) is.3 in
+      body_undecided how middle rest unused (body.Body request.body) undecided (subst (λ (l : List ℕ). Decides how l (body.Body request.body) unused) (sym same.rest_is) there)
+  not_whole (Refused answer) waits (inl (none, inl refused)) = not_bad bytes h refused.0 middle unused begins.reads refused.1
+  not_whole (Refused answer) waits (inl (none, inr refused)) = not_refused bytes h refused.0 how waits' answer middle unused begins refused.1
+  not_whole (Refused answer) waits (inr refused) =
+      let same = same_beginning bytes h refused.0 how refused.1 waits' waits middle refused.2 begins refused.3 in
+      let there = subst (λ (f : Framing). IsNoBody f refused.2 refused.4 unused) (sym same.how_is) refused.5 in
+      no_body_yet how middle rest unused refused.4 undecided (subst (λ (l : List ℕ). IsNoBody how l refused.4 unused) (sym same.rest_is) there)
+
+pub open_unasked : (bytes unused written : List ℕ) (left : Option (List ℕ)) (asked : Asked) (waits : Bool) → IsOpen bytes left head.ReadFault body.ReadFault written → IsAsked bytes asked waits unused → ⊥
+open_unasked bytes unused written left asked waits (inl is) asks = no_head_yet bytes unused asked waits is.1.1 asks
+open_unasked bytes unused written left asked waits (inr is) asks = not_whole bytes unused is.0 is.1 is.2 is.3 is.5 is.4 is.6 asked waits asks

@@ -25,7 +25,7 @@ use Rattle.sw_request.specs.declared.judging.Verdict.TheVariants.{Read, Refuse}
 use Rattle.sw_response.specs.Response.{wanting_answer}
 use Rattle.sw_front.specs.Answering.{Answers, Ways}
 use Rattle.sw_serve.specs.Asks.{Asked, BeginsWith, IsAsked, IsNoBody, IsNoHead, Refused, Whole}
-use Rattle.sw_serve.specs.Serving.{IsFront, Replies, Wants, closing_at, leave_bytes}
+use Rattle.sw_serve.specs.Serving.{IsFront, IsToHead, Replies, Wants, closing_at, leave_bytes}
 use Rattle.sw_serve.specs.Turns.{IsSent, IsTurn, TakesBody, TakesHead, TakesRequest, TakesTurn}
 use Rattle.sw_serve.specs.declared.end.ConnEnd.TheVariants as end
 use Rattle.sw_serve.specs.declared.turn.Turn.{Turn}
@@ -45,35 +45,36 @@ module _ {L : Type 0} (ways : Ways L) (cluster : ClusterModel) (number : ℕ) (b
 
   -- what was asked was answered, and the answer was sent, or a front of it
   pub sent_turn : (bytes : List ℕ) (asked : Asked) (waits : Bool) (unused : List ℕ) (left : Option (List ℕ)) (answer : AnswerModel) (to_head : Bool) (turn : Turn) (told : List ℕ) → IsAsked bytes asked waits unused
-      → Replies ways cluster number asked before answer after → IsSent answer to_head turn told → IsTurn ways cluster number bytes left before after unused turn (leave_bytes waits ++ told)
-  sent_turn bytes asked waits unused left answer to_head (Answered closes) told is replies sent = (record { asked = asked; waits = waits; answer = answer }, is, replies, sent.0, ap (λ (t : List ℕ). leave_bytes waits ++ t) sent.1)
-  sent_turn bytes asked waits unused left answer to_head (Over end.WriteFault) told is replies sent = inr (record { asked = asked; waits = waits; answer = answer }, unused, is, replies, told, sent, refl)
-  sent_turn bytes asked waits unused left answer to_head (Over end.NoMemory) told is replies sent = record {
+      → Replies ways cluster number asked before answer after → IsSent answer to_head turn told → IsToHead ways cluster bytes waits before after to_head → IsTurn ways cluster number bytes left before after unused turn (leave_bytes waits ++ told)
+  sent_turn bytes asked waits unused left answer to_head (Answered closes) told is replies sent of_head = (record { asked = asked; waits = waits; answer = answer }, is, replies, sent.0, ap (λ (t : List ℕ). leave_bytes waits ++ t) sent.1)
+  sent_turn bytes asked waits unused left answer to_head (Over end.WriteFault) told is replies sent of_head = inr (record { asked = asked; waits = waits; answer = answer }, unused, is, replies, told, sent, refl)
+  sent_turn bytes asked waits unused left answer to_head (Over end.NoMemory) told is replies sent of_head = record {
     waits = waits;
     due = leave_due bytes asked waits unused is;
     wants = wants_of bytes asked waits unused answer is replies;
     to_head = to_head;
+    is_to_head = of_head;
     front = told;
     is_front = sent;
     written_is = refl;
   }
-  sent_turn bytes asked waits unused left answer to_head (Over end.Closed) told is replies sent = absurd sent
-  sent_turn bytes asked waits unused left answer to_head (Over end.Cut) told is replies sent = absurd sent
-  sent_turn bytes asked waits unused left answer to_head (Over end.ReadFault) told is replies sent = absurd sent
+  sent_turn bytes asked waits unused left answer to_head (Over end.Closed) told is replies sent of_head = absurd sent
+  sent_turn bytes asked waits unused left answer to_head (Over end.Cut) told is replies sent of_head = absurd sent
+  sent_turn bytes asked waits unused left answer to_head (Over end.ReadFault) told is replies sent of_head = absurd sent
 
   -- ---- a request
 
-  pub request_sent : (request : RequestModel) (left written written' : Option (List ℕ)) (given answer : AnswerModel) (to_head : Bool) (turn : Turn) → Answers ways cluster request before (Ok given) after → answer ≡ closing_at number given
+  pub request_sent : (request : RequestModel) (left written written' : Option (List ℕ)) (given answer : AnswerModel) (to_head : Bool) (turn : Turn) → to_head ≡ is_head request.head → Answers ways cluster request before (Ok given) after → answer ≡ closing_at number given
       → (told : List ℕ) × Appends written written' told × IsSent answer to_head turn told → TakesRequest ways cluster number request left written written' before after turn
-  request_sent request left written written' given answer to_head turn answers is sent = record {
+  request_sent request left written written' given answer to_head turn head_is answers is sent = record {
     told = sent.0;
     writes = sent.1;
-    is = λ bytes waits unused asked. sent_turn bytes (Whole request) waits unused left answer to_head turn sent.0 asked (given, answers, is) sent.2;
+    is = λ bytes waits unused asked. sent_turn bytes (Whole request) waits unused left answer to_head turn sent.0 asked (given, answers, is) sent.2 (inl (request.head, asked.1, asked.2.reads, head_is));
   }
 
-  pub request_wants : (request : RequestModel) (left written written' : Option (List ℕ)) (refused : Wanted) (to_head : Bool) (turn : Turn) → Answers ways cluster request before (Err refused) after → turn ≡ Over end.NoMemory
+  pub request_wants : (request : RequestModel) (left written written' : Option (List ℕ)) (refused : Wanted) (to_head : Bool) (turn : Turn) → to_head ≡ is_head request.head → Answers ways cluster request before (Err refused) after → turn ≡ Over end.NoMemory
       → (front : List ℕ) × Appends written written' front × IsFront front (response_bytes (wanting_answer to_head)) → TakesRequest ways cluster number request left written written' before after turn
-  request_wants request left written written' refused to_head turn answers is told = record {
+  request_wants request left written written' refused to_head turn head_is answers is told = record {
     told = told.0;
     writes = told.1;
     is = λ bytes waits unused asked. subst (λ (t : Turn). IsTurn ways cluster number bytes left before after unused t (leave_bytes waits ++ told.0)) (sym is) (record {
@@ -81,6 +82,7 @@ module _ {L : Type 0} (ways : Ways L) (cluster : ClusterModel) (number : ℕ) (b
       due = leave_due bytes (Whole request) waits unused asked;
       wants = inr (request, unused, asked, Err refused, answers);
       to_head = to_head;
+      is_to_head = inl (request.head, asked.1, asked.2.reads, head_is);
       front = told.0;
       is_front = told.2;
       written_is = refl;
@@ -134,13 +136,14 @@ module _ {L : Type 0} (ways : Ways L) (cluster : ClusterModel) (number : ℕ) (b
           writes = sent.1;
           is = λ bytes waits begins.
               sent_turn bytes (Refused answer) waits unused' middle answer to_head turn sent.0
-              (inr (request, how, unused ++ reads.got, begins, why, none, ap (λ (b : Bool). refusal_answer b true (refusal_of why)) head_is)) (refl, same) sent.2;
+              (inr (request, how, unused ++ reads.got, begins, why, none, ap (λ (b : Bool). refusal_answer b true (refusal_of why)) head_is)) (refl, same) sent.2
+              (inl (request, unused ++ reads.got, begins.reads, head_is));
         }
 
     -- memory was wanted
-    pub body_wants : (no_body : BodyNext) (to_head : Bool) (turn : Turn) (middle written written' : Option (List ℕ)) → ReadsBody how left left' unused unused' no_body → left' ≡ middle → after ≡ before → turn ≡ Over end.NoMemory
+    pub body_wants : (no_body : BodyNext) (to_head : Bool) (turn : Turn) (middle written written' : Option (List ℕ)) → ReadsBody how left left' unused unused' no_body → to_head ≡ is_head request → left' ≡ middle → after ≡ before → turn ≡ Over end.NoMemory
         → (front : List ℕ) × Appends written written' front × IsFront front (response_bytes (wanting_answer to_head)) → TakesBody ways cluster number request how left middle written written' unused unused' before after turn
-    body_wants no_body to_head turn middle written written' reads kept same is told = record {
+    body_wants no_body to_head turn middle written written' reads head_is kept same is told = record {
       got = reads.got;
       consumed = subst (λ (o : Option (List ℕ)). Consumes left o reads.got) kept reads.consumed;
       told = told.0;
@@ -150,6 +153,7 @@ module _ {L : Type 0} (ways : Ways L) (cluster : ClusterModel) (number : ℕ) (b
         due = λ due. (request, how, unused ++ reads.got, subst (λ (b : Bool). BeginsWith bytes request how b (unused ++ reads.got)) due begins);
         wants = inl same;
         to_head = to_head;
+        is_to_head = inl (request, unused ++ reads.got, begins.reads, head_is);
         front = told.0;
         is_front = told.2;
         written_is = refl;
@@ -179,16 +183,16 @@ module _ {L : Type 0} (ways : Ways L) (cluster : ClusterModel) (number : ℕ) (b
       nothing_got = subst (λ (o : Option (List ℕ)). Consumes left o []) (sym kept) (Consumes-nil left)
 
       -- it has a defect
-      pub head_refused : (answer : AnswerModel) (to_head : Bool) (turn : Turn) → IsVerdict request (Refuse answer) → (told : List ℕ) × Appends written written' told × IsSent answer to_head turn told
+      pub head_refused : (answer : AnswerModel) (to_head : Bool) (turn : Turn) → to_head ≡ is_head request → IsVerdict request (Refuse answer) → (told : List ℕ) × Appends written written' told × IsSent answer to_head turn told
           → TakesHead ways cluster number request left left' written written' unused unused before after turn
-      head_refused answer to_head turn verdict sent = record {
+      head_refused answer to_head turn head_is verdict sent = record {
         got = [];
         consumed = nothing_got;
         told = sent.0;
         writes = sent.1;
         is = λ bytes reads.
             sent_turn bytes (Refused answer) false unused left' answer to_head turn sent.0
-            (inl (refl, inr (request, record { reads = at_end bytes reads; why = verdict.0; defect = verdict.1; answer_is = verdict.2 }))) (refl, same) sent.2;
+            (inl (refl, inr (request, record { reads = at_end bytes reads; why = verdict.0; defect = verdict.1; answer_is = verdict.2 }))) (refl, same) sent.2 (inl (request, unused, at_end bytes reads, head_is));
       }
 
       -- leave could not be written
@@ -204,9 +208,9 @@ module _ {L : Type 0} (ways : Ways L) (cluster : ClusterModel) (number : ℕ) (b
       }
 
       -- memory was wanted
-      pub head_wants : (to_head : Bool) (turn : Turn) → turn ≡ Over end.NoMemory → (front : List ℕ) × Appends written written' front × IsFront front (response_bytes (wanting_answer to_head))
+      pub head_wants : (to_head : Bool) (turn : Turn) → to_head ≡ is_head request → turn ≡ Over end.NoMemory → (front : List ℕ) × Appends written written' front × IsFront front (response_bytes (wanting_answer to_head))
           → TakesHead ways cluster number request left left' written written' unused unused before after turn
-      head_wants to_head turn is told = record {
+      head_wants to_head turn head_is is told = record {
         got = [];
         consumed = nothing_got;
         told = told.0;
@@ -216,6 +220,7 @@ module _ {L : Type 0} (ways : Ways L) (cluster : ClusterModel) (number : ℕ) (b
           due = λ due. absurd (cc);
           wants = inl same;
           to_head = to_head;
+          is_to_head = inl (request, unused, at_end bytes reads, head_is);
           front = told.0;
           is_front = told.2;
           written_is = refl;
@@ -252,5 +257,24 @@ module _ {L : Type 0} (ways : Ways L) (cluster : ClusterModel) (number : ℕ) (b
           consumed = subst (λ (o : Option (List ℕ)). Consumes left o reads.got) kept reads.consumed;
           told = sent.0;
           writes = sent.1;
-          is = sent_turn (unused ++ reads.got) (Refused answer) false unused' middle answer false turn sent.0 (inl (refl, inl (why, none, refl))) (refl, same) sent.2;
+          is = sent_turn (unused ++ reads.got) (Refused answer) false unused' middle answer false turn sent.0 (inl (refl, inl (why, none, refl))) (refl, same) sent.2 (inr (refl, refl, same));
         }
+
+    pub turn_wants : (no_head : HeadNext) (turn : Turn) (middle written written' : Option (List ℕ)) → ReadsHead left left' unused unused' no_head → left' ≡ middle → turn ≡ Over end.NoMemory
+        → (front : List ℕ) × Appends written written' front × IsFront front (response_bytes (wanting_answer false)) → TakesTurn ways cluster number left middle written written' unused unused' before after turn
+    turn_wants no_head turn middle written written' reads kept is told = record {
+      got = reads.got;
+      consumed = subst (λ (o : Option (List ℕ)). Consumes left o reads.got) kept reads.consumed;
+      told = told.0;
+      writes = told.1;
+      is = subst (λ (t : Turn). IsTurn ways cluster number (unused ++ reads.got) middle before after unused' t told.0) (sym is) (record {
+        waits = false;
+        due = λ due. absurd (cc);
+        wants = inl same;
+        to_head = false;
+        is_to_head = inr (refl, refl, same);
+        front = told.0;
+        is_front = told.2;
+        written_is = refl;
+      });
+    }

@@ -1,5 +1,5 @@
 -- What is answered on a connection, over which ways, and how that ends.
-use Rattle.std.specs.Prelude.{◌≡◌, ◌⊎◌, ◌==◌, ◌||◌, ◌<◌, ◌≤◌, ◌+◌, ℕ, Bool, true, false, if◌then◌else◌, List, [], ◌∷◌, ◌++◌, length, take, Option, Some, Result, Ok, ⊤}
+use Rattle.std.specs.Prelude.{◌≡◌, ◌⊎◌, ◌==◌, ◌||◌, ◌<◌, ◌≤◌, ◌+◌, ℕ, Bool, true, false, if◌then◌else◌, List, [], ◌∷◌, ◌++◌, length, take, Option, None, Result, Ok, ⊤}
 use Rattle.std.specs.Io.KnownBytes.{Appends, Consumes}
 use Rattle.sw_types.specs.declared.memory.NoMemory.{NoMemory as Refusal}
 use Rattle.sw_ring.specs.Cluster.{ClusterModel}
@@ -14,6 +14,7 @@ use Rattle.sw_httpread.specs.declared.head.HeadNext.TheVariants as head
 use Rattle.sw_httpwrite.specs.Answer.{AnswerModel}
 use Rattle.sw_httpwrite.specs.Response.{continue_bytes, response_bytes}
 use Rattle.sw_request.specs.Body.{RequestModel}
+use Rattle.sw_request.specs.Response.{is_head}
 use Rattle.sw_response.specs.Response.{wanting_answer}
 use Rattle.sw_front.specs.Answering.{Answers, Ways}
 use Rattle.sw_serve.specs.Asks.{Asked, BeginsWith, IsAsked, Refused, Whole}
@@ -94,12 +95,19 @@ module _ {L : Type 0} (ways : Ways L) (cluster : ClusterModel) where
   Wants bytes waits before after =
       (after ≡ before) ⊎ ((request : RequestModel) × (unused : List ℕ) × IsAsked bytes (Whole request) waits unused × (result : Result AnswerModel Refusal) × Answers ways cluster request before result after)
 
+  -- whether the request for which memory was wanted is a HEAD, where its head was read
+  abbrev pub IsToHead : List ℕ → (waits : Bool) → (before after : L) → (to_head : Bool) → Type 0
+  IsToHead bytes waits before after to_head =
+      ((request : RequestHeadModel) × (unused : List ℕ) × IsHeadNext bytes None (head.Head request) unused × (to_head ≡ is_head request))
+      ⊎ ((to_head ≡ false) × (waits ≡ false) × (after ≡ before))
+
   -- memory was wanted: leave may have been given, where it was due, and an answer that says so may have been written, or a front of it
   pub record IsWanting (bytes : List ℕ) (before after : L) (written : List ℕ) : Type 0 where
     pub waits : Bool
     pub due : waits ≡ true → (request : RequestHeadModel) × (how : Framing) × (middle : List ℕ) × BeginsWith bytes request how true middle
     pub wants : Wants bytes waits before after
     pub to_head : Bool
+    pub is_to_head : IsToHead bytes waits before after to_head
     pub front : List ℕ
     pub is_front : IsFront front (response_bytes (wanting_answer to_head))
     pub written_is : written ≡ leave_bytes waits ++ front

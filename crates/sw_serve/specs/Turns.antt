@@ -1,7 +1,7 @@
 -- What one turn of a connection is: what comes next is read and answered, or the connection ends.
-use Rattle.std.specs.Prelude.{◌≡◌, ◌≤◌, ℕ, Bool, List, [], ◌++◌, Option, None, ⊤}
+use Rattle.std.specs.Prelude.{◌≡◌, ◌⊎◌, ◌≤◌, ℕ, Bool, List, [], ◌++◌, Option, None, ⊤}
 use Rattle.std.specs.Io.KnownBytes.{Appends, Consumes}
-use Rattle.sw_words.specs.Counts.{Rose}
+use Rattle.sw_words.specs.Counts.{Rose, one_more}
 use Rattle.sw_ring.specs.Cluster.{ClusterModel}
 use Rattle.sw_httpread.specs.Heads.{IsHeadNext}
 use Rattle.sw_httpread.specs.Request.{RequestHeadModel}
@@ -44,7 +44,10 @@ IsQuiet other = ⊥
 pub record CountsTurn (turn : Turn) (before after : ℕ) : Type 0 where
   pub never_falls : before ≤ after
   pub cause : IsFault turn → Rose before after
+  pub counted : IsFault turn → after ≡ one_more before
   pub quiet : IsQuiet turn → after ≡ before
+  -- once at most, also where memory was wanted
+  pub once : (after ≡ before) ⊎ (after ≡ one_more before)
 
 -- ---- turns
 

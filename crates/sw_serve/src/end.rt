@@ -11,6 +11,6 @@ pub enum ConnEnd {
     ReadFault,
     /// Writing failed, and the connection's count of faults rose.
     WriteFault,
-    /// Memory was wanted. An answer that says so was written where memory and the connection allowed that.
+    /// Memory was wanted. An answer that says so, or a front of it, may have been written.
     NoMemory,
 }

@@ -1,8 +1,8 @@
 //! Answers are sent.
 
-ghost use Rattle.std.specs.Prelude.{◌≡◌, ◌≤◌, List, ℕ, OnErr, OnOk, true};
+ghost use Rattle.std.specs.Prelude.{◌≡◌, ◌⊎◌, ◌≤◌, List, ℕ, OnErr, OnOk, true};
 ghost use Rattle.std.specs.Io.KnownBytes.{Appends};
-ghost use Rattle.sw_words.specs.Counts.{CountsFailure, FailsByCount};
+ghost use Rattle.sw_words.specs.Counts.{CountsFailure, FailsByCount, one_more};
 ghost use Rattle.sw_io.specs.Whole.{AppendsProperFront};
 ghost use Rattle.sw_httpwrite.specs.Response.{continue_bytes, response_bytes};
 ghost use Rattle.sw_request.specs.Refusal.{refusal_of};
@@ -70,6 +70,7 @@ pub(crate) fn want<N: Conn>(alloc: Global, conn: &mut N, to_head: bool) -> Turn
     ensures remaining { N.remaining conn.new ≡ N.remaining conn.old }
     ensures closed { N.closed conn.new ≡ N.closed conn.old }
     ensures never_falls { N.faults conn.old ≤ N.faults conn.new }
+    ensures once { (N.faults conn.new ≡ N.faults conn.old) ⊎ (N.faults conn.new ≡ one_more (N.faults conn.old)) }
 {
     if let Ok(answer) = wanting_answer(alloc, to_head) {
         // The connection ends behind it, however much of it was written.

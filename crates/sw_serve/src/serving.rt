@@ -14,7 +14,7 @@ use sw_io::Conn;
 use sw_message::{Draw, Link};
 use sw_ring::Cluster;
 
-/// Serves a connection: its requests are read and answered one behind the other, at most a thousand, and it is closed last.
+/// Serves a connection: its requests are read and answered one behind the other, at most a thousand, and it is closed.
 pub fn serve_connection<N: Conn, L: Draw>(
     alloc: Global,
     conn: &mut N,
@@ -22,7 +22,7 @@ pub fn serve_connection<N: Conn, L: Draw>(
     link: &mut L,
 ) -> ConnEnd
     requires { (of : ClusterModel) → L.cluster link.old ≡ Some of → cluster.now ≡ of }
-    ensures serves { Serves (record { draws = L.draws; calls = L.calls; losses = L.losses; refusals = L.refusals; learnt = L.learnt }) cluster.now (N.remaining conn.old) (N.remaining conn.new) (N.written conn.old) (N.written conn.new) link.old result link.new }
+    ensures serves { Serves (record { draws = L.draws; calls = L.calls; losses = L.losses; refusals = L.refusals; learnt = L.learnt; may_be_silent = L.may_be_silent }) cluster.now (N.remaining conn.old) (N.remaining conn.new) (N.written conn.old) (N.written conn.new) link.old result link.new }
     ensures counts { CountsEnd result (N.faults conn.old) (N.faults conn.new) }
     ensures closed { N.closed conn.new ≡ true }
     ensures tells { StillTells (L.may_be_silent link.new) (L.learnt link.old) (L.learnt link.new) }
@@ -42,7 +42,7 @@ fn serve_all<N: Conn, L: Draw>(
     link: &mut L,
 ) -> ConnEnd
     requires { (of : ClusterModel) → L.cluster link.old ≡ Some of → cluster.now ≡ of }
-    ensures serves { Serves (record { draws = L.draws; calls = L.calls; losses = L.losses; refusals = L.refusals; learnt = L.learnt }) cluster.now (N.remaining conn.old) (N.remaining conn.new) (N.written conn.old) (N.written conn.new) link.old result link.new }
+    ensures serves { Serves (record { draws = L.draws; calls = L.calls; losses = L.losses; refusals = L.refusals; learnt = L.learnt; may_be_silent = L.may_be_silent }) cluster.now (N.remaining conn.old) (N.remaining conn.new) (N.written conn.old) (N.written conn.new) link.old result link.new }
     ensures counts { CountsEnd result (N.faults conn.old) (N.faults conn.new) }
     ensures tells { StillTells (L.may_be_silent link.new) (L.learnt link.old) (L.learnt link.new) }
     ensures silence { L.may_be_silent link.old → L.may_be_silent link.new }

@@ -1,5 +1,5 @@
 -- The calls of the link are the steps of a get.
-use Rattle.std.proofs.Common.{◌≡◌, Option, Some, None, subst}
+use Rattle.std.proofs.Common.{◌≡◌, Some, None}
 use Rattle.std.specs.Prelude.{MatchOption}
 use Rattle.sw_get.specs.Get.{Begun, IsEnd}
 use Rattle.sw_message.specs.Learnt.{Nothing}

@@ -1,5 +1,5 @@
 -- The calls of the link are the steps of a put whose stamp was drawn before.
-use Rattle.std.proofs.Common.{◌≡◌, Option, Some, None}
+use Rattle.std.proofs.Common.{◌≡◌, Some, None}
 use Rattle.std.specs.Prelude.{MatchOption}
 use Rattle.sw_message.specs.Learnt.{OwnPut}
 use Rattle.sw_message.proofs.Going.{still_more}

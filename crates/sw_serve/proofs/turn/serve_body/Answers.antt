@@ -27,4 +27,4 @@ returns-in-ReadFault-clause-takes g c = rw c.read_body.ensures.written (body_fau
 pub returns-in-NoMemory-clause-takes : goal.returns-in-NoMemory-clause-takes
 returns-in-NoMemory-clause-takes g c =
     let told = rw c.read_body.ensures.written at c.want.ensures.told in
-    body_wants _ _ _ _ _ _ _ _ _ _ _ _ c.is_head-to_head.result _ _ _ _ c.in-NoMemory.ensures.reads (sym c.want.ensures.remaining) refl c.want.ensures.over told
+    body_wants _ _ _ _ _ _ _ _ _ _ _ _ c.is_head-to_head.result _ _ _ _ c.in-NoMemory.ensures.reads c.is_head-to_head.ensures (sym c.want.ensures.remaining) refl c.want.ensures.over told

@@ -5,7 +5,7 @@ use Rattle.sw_serve.proofs.turn.serve_head.Goals as goal
 pub returns-in-Ok-Refuse-clause-takes : goal.returns-in-Ok-Refuse-clause-takes
 returns-in-Ok-Refuse-clause-takes g c =
     let verdict = rw c.in-Ok-Refuse.field-0-is at c.in-Ok-Refuse.ensures in
-    head_refused _ _ _ _ _ _ _ _ _ _ _ c.send.ensures.remaining refl c.in-Ok-Refuse.answer c.is_head.result _ verdict c.send.ensures.sent
+    head_refused _ _ _ _ _ _ _ _ _ _ _ c.send.ensures.remaining refl c.in-Ok-Refuse.answer c.is_head.result _ c.is_head.ensures verdict c.send.ensures.sent
 
 pub returns-in-Ok-clause-takes : goal.returns-in-Ok-clause-takes
 returns-in-Ok-clause-takes g c =
@@ -19,4 +19,4 @@ returns-in-Err-give_leave-clause-takes g c =
     head_cut_off _ _ _ _ _ _ _ _ _ _ _ c.give_leave.ensures.remaining refl c.in-Ok-Read.framing c.in-Ok-Read.waits verdict part.0 part.1
 
 pub returns-in-Err-clause-takes : goal.returns-in-Err-clause-takes
-returns-in-Err-clause-takes g c = head_wants _ _ _ _ _ _ _ _ _ _ _ c.want.ensures.remaining refl c.is_head-in-Err.result _ c.want.ensures.over c.want.ensures.told
+returns-in-Err-clause-takes g c = head_wants _ _ _ _ _ _ _ _ _ _ _ c.want.ensures.remaining refl c.is_head-in-Err.result _ c.is_head-in-Err.ensures c.want.ensures.over c.want.ensures.told

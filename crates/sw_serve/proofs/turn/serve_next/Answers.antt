@@ -1,5 +1,5 @@
 use Rattle.std.proofs.Common.{refl, sym}
-use Rattle.sw_serve.proofs.Turns.{turn_cut, turn_fault, turn_head, turn_refused}
+use Rattle.sw_serve.proofs.Turns.{turn_cut, turn_fault, turn_head, turn_refused, turn_wants}
 use Rattle.sw_request.specs.declared.refusal.BadInput.TheVariants as bad
 use Rattle.sw_serve.proofs.turn.serve_next.Goals as goal
 
@@ -23,3 +23,8 @@ returns-in-HeadTooLarge-clause-takes g c =
 
 pub returns-in-ReadFault-clause-takes : goal.returns-in-ReadFault-clause-takes
 returns-in-ReadFault-clause-takes g c = rw c.next_head.ensures.written (turn_fault _ _ _ _ _ _ _ _ _ refl _ c.in-ReadFault.ensures.reads)
+
+pub returns-in-NoMemory-clause-takes : goal.returns-in-NoMemory-clause-takes
+returns-in-NoMemory-clause-takes g c =
+    let told = rw c.next_head.ensures.written at c.want.ensures.told in
+    turn_wants _ _ _ _ _ _ _ _ _ refl _ _ _ _ _ c.in-NoMemory.ensures.reads (sym c.want.ensures.remaining) c.want.ensures.over told
