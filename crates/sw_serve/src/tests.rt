@@ -21,7 +21,9 @@ fn serve(
     let clock = Stamp::make(100_000_000_000_000).ok_or("stamp")?;
     let mut link = Telling::new(alloc, &cluster, clock)?;
     let mut conn = MemConn::new(alloc, bytes.to_vec(alloc)?);
-    conn.give_at_most(most);
+    if most > 0 {
+        conn.give_at_most(most);
+    }
     if let Some(calls) = calls {
         conn.fuse(calls);
     }
