@@ -74,12 +74,12 @@ impl Draw for Obliging {
     }
 }
 
-fn link_from(alloc: Global, next: u64) -> Obliging {
+fn link_from(alloc: Global, next: u64, floor: Option<Floor>) -> Obliging {
     Obliging {
         alloc,
         next,
         refused: 0,
-        floor: None,
+        floor,
     }
 }
 
@@ -98,7 +98,7 @@ fn runs_operations_to_their_ends(rt: HostRuntime) -> Result<(), Fail> {
     let alloc = rt.alloc();
     let cluster = Cluster::read(alloc, built_in())?;
     let (name, object) = (a_c_o(alloc)?, abc(alloc)?);
-    let mut link = link_from(alloc, 7);
+    let mut link = link_from(alloc, 7, None);
     let created = put(alloc, &cluster, &mut link, &name, &object)?;
     assert!(rt; matches!(&created, PutEnd::Created { commits: 3, .. }));
     let found = get(alloc, &cluster, &mut link, &name)?;
@@ -122,7 +122,7 @@ fn draws_no_stamp_after_the_last(rt: HostRuntime) -> Result<(), Fail> {
     let alloc = rt.alloc();
     let cluster = Cluster::read(alloc, built_in())?;
     let (name, object) = (a_c_o(alloc)?, abc(alloc)?);
-    let mut link = link_from(alloc, 1_000_000_000_000_000);
+    let mut link = link_from(alloc, 1_000_000_000_000_000, None);
     let put = put(alloc, &cluster, &mut link, &name, &object);
     assert_eq!(rt; put.err(), Some(FrontFault::StampsSpent));
     let deleted = delete(alloc, &cluster, &mut link, &name);
@@ -147,23 +147,27 @@ fn request_of(alloc: Global, head: &str, body: &[u8]) -> Result<Request, Fail>
     Ok(Request::new(head, Bytes::from_slice(alloc, body)?))
 }
 
+fn tombstone() -> Result<Floor, Fail> {
+    Ok(Floor {
+        stamp: Stamp::make(100_000_000_000_000).ok_or("stamp")?,
+        kind: FloorKind::Tombstone,
+    })
+}
+
 #[test]
 fn answers_requests(rt: HostRuntime) -> Result<(), Fail> {
     let alloc = rt.alloc();
     let cluster = Cluster::read(alloc, built_in())?;
-    let stamp = Stamp::make(100_000_000_000_000).ok_or("stamp")?;
-    let floor = Some(Floor {
-        stamp,
-        kind: FloorKind::Tombstone,
-    });
-    let put = "PUT /v1/a/c/o HTTP/1.1\r\nHost: h\r\nContent-Length: 3\r\n";
-    let other_tag = format!(in alloc; "{put}ETag: \"d41d8cd98f00b204e9800998ecf8427e\"\r\n\r\n")?;
-    let put = format!(in alloc; "{put}ETag: \"900150983CD24FB0D6963F7D28E17F72\"\r\n\r\n")?;
+    let floor = Some(tombstone()?);
+    let put =
+        "PUT /v1/a/c/o HTTP/1.1\r\nHost: h\r\nContent-Length: 3\r\nETag: \"900150983CD24FB0D6963F7D28E17F72\"\r\n\r\n";
+    let other_tag =
+        "PUT /v1/a/c/o HTTP/1.1\r\nHost: h\r\nContent-Length: 3\r\nETag: d41d8cd98f00b204e9800998ecf8427e\r\n\r\n";
     let get = "GET /v1/a/c/o HTTP/1.0\r\n\r\n";
     let delete = "DELETE /v1/a/c/o HTTP/1.1\r\nHost: h\r\n\r\n";
     let cases: [(&str, Option<Floor>, u64, u16, &str, bool); 7] = [
-        (&put, None, 7, 201, "", false),
-        (&put, floor, 7, 202, "Superseded 1000000000.00000\n", false),
+        (put, None, 7, 201, "", false),
+        (put, floor, 7, 202, "Superseded 1000000000.00000\n", false),
         (
             &put,
             None,
@@ -172,7 +176,7 @@ fn answers_requests(rt: HostRuntime) -> Result<(), Fail> {
             "StampsSpent\n",
             false,
         ),
-        (&other_tag, floor, 7, 422, "ETagDiffers\n", false),
+        (other_tag, floor, 7, 422, "ETagDiffers\n", false),
         (get, None, 7, 404, "Absent\n", true),
         (delete, None, 7, 404, "Missing\n", false),
         (
@@ -185,10 +189,7 @@ fn answers_requests(rt: HostRuntime) -> Result<(), Fail> {
         ),
     ];
     for (head, floor, next, status, body, close) in cases {
-        let mut link = Obliging {
-            floor,
-            ..link_from(alloc, next)
-        };
+        let mut link = link_from(alloc, next, floor);
         let request = request_of(alloc, head, b"abc")?;
         let answer = answer(alloc, &cluster, &mut link, &request)?;
         assert_eq!(rt; answer.status(), status, "of {head:?}");
