@@ -25,7 +25,7 @@ use Rattle.sw_request.specs.declared.judging.Verdict.TheVariants.{Read, Refuse}
 use Rattle.sw_response.specs.Response.{wanting_answer}
 use Rattle.sw_front.specs.Answering.{Answers, Ways}
 use Rattle.sw_serve.specs.Asks.{Asked, BeginsWith, IsAsked, IsNoBody, IsNoHead, Refused, Whole}
-use Rattle.sw_serve.specs.Serving.{IsFront, IsToHead, Replies, Wants, closing_at, leave_bytes}
+use Rattle.sw_serve.specs.Serving.{IsFront, IsOpen, IsToHead, Replies, Wants, closing_at, leave_bytes}
 use Rattle.sw_serve.specs.Turns.{IsSent, IsTurn, TakesBody, TakesHead, TakesRequest, TakesTurn}
 use Rattle.sw_serve.specs.declared.end.ConnEnd.TheVariants as end
 use Rattle.sw_serve.specs.declared.turn.Turn.{Turn}
@@ -103,24 +103,16 @@ module _ {L : Type 0} (ways : Ways L) (cluster : ClusterModel) (number : ℕ) (b
       is = λ bytes waits begins. takes.is bytes waits unused' (how, unused ++ reads.got, begins, reads.outcome);
     }
 
-    -- it is cut
-    pub body_cut : (written : Option (List ℕ)) → ReadsBody how left left' unused unused' body.Cut → after ≡ before → TakesBody ways cluster number request how left left' written written unused unused' before after (Over end.Cut)
-    body_cut written reads same = record {
+    -- it is cut, or reading failed: nothing was written
+    pub body_open : (no_head : HeadNext) (no_body : BodyNext) (turn : Turn) (written : Option (List ℕ))
+        → ((bytes told : List ℕ) → (after ≡ before) × IsOpen bytes left' no_head no_body told → IsTurn ways cluster number bytes left' before after unused' turn told)
+        → ReadsBody how left left' unused unused' no_body → after ≡ before → TakesBody ways cluster number request how left left' written written unused unused' before after turn
+    body_open no_head no_body turn written ends reads same = record {
       got = reads.got;
       consumed = reads.consumed;
       told = [];
       writes = Appends-nil written;
-      is = λ bytes waits begins. (same, inr (request, how, waits, unused ++ reads.got, begins, unused', reads.outcome, append-nil (leave_bytes waits)));
-    }
-
-    -- reading failed
-    pub body_fault : (written : Option (List ℕ)) → ReadsBody how left left' unused unused' body.ReadFault → after ≡ before → TakesBody ways cluster number request how left left' written written unused unused' before after (Over end.ReadFault)
-    body_fault written reads same = record {
-      got = reads.got;
-      consumed = reads.consumed;
-      told = [];
-      writes = Appends-nil written;
-      is = λ bytes waits begins. (same, inr (request, how, waits, unused ++ reads.got, begins, unused', reads.outcome, append-nil (leave_bytes waits)));
+      is = λ bytes waits begins. ends bytes (leave_bytes waits ++ []) (same, inr (request, how, waits, unused ++ reads.got, begins, unused', reads.outcome, append-nil (leave_bytes waits)));
     }
 
     -- it is none
@@ -242,11 +234,17 @@ module _ {L : Type 0} (ways : Ways L) (cluster : ClusterModel) (number : ℕ) (b
       }
 
   module _ (left left' : Option (List ℕ)) (unused unused' : List ℕ) (same : after ≡ before) where
-    pub turn_cut : (written : Option (List ℕ)) → ReadsHead left left' unused unused' head.Cut → TakesTurn ways cluster number left left' written written unused unused' before after (Over end.Cut)
-    turn_cut written reads = record { got = reads.got; consumed = reads.consumed; told = []; writes = Appends-nil written; is = (same, inl (unused', reads.outcome, refl)) }
-
-    pub turn_fault : (written : Option (List ℕ)) → ReadsHead left left' unused unused' head.ReadFault → TakesTurn ways cluster number left left' written written unused unused' before after (Over end.ReadFault)
-    turn_fault written reads = record { got = reads.got; consumed = reads.consumed; told = []; writes = Appends-nil written; is = (same, inl (unused', reads.outcome, refl)) }
+    -- it is cut, or reading failed: nothing was written
+    pub turn_open : (no_head : HeadNext) (no_body : BodyNext) (turn : Turn) (written : Option (List ℕ))
+        → ((bytes told : List ℕ) → (after ≡ before) × IsOpen bytes left' no_head no_body told → IsTurn ways cluster number bytes left' before after unused' turn told)
+        → ReadsHead left left' unused unused' no_head → TakesTurn ways cluster number left left' written written unused unused' before after turn
+    turn_open no_head no_body turn written ends reads = record {
+      got = reads.got;
+      consumed = reads.consumed;
+      told = [];
+      writes = Appends-nil written;
+      is = ends (unused ++ reads.got) [] (same, inl (unused', reads.outcome, refl));
+    }
 
     pub turn_refused : (no_head : HeadNext) (why : BadInput) (turn : Turn) (middle written written' : Option (List ℕ)) (reads : ReadsHead left left' unused unused' no_head) → IsNoHead (unused ++ reads.got) why unused' → left' ≡ middle
         → (told : List ℕ) × Appends written written' told × IsSent (refusal_answer false true (refusal_of why)) false turn told → TakesTurn ways cluster number left middle written written' unused unused' before after turn

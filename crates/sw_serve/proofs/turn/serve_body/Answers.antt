@@ -1,5 +1,9 @@
 use Rattle.std.proofs.Common.{refl, sym}
-use Rattle.sw_serve.proofs.Turns.{body_cut, body_fault, body_read, body_refused, body_wants}
+use Rattle.sw_httpread.specs.declared.body.BodyNext.TheVariants as body
+use Rattle.sw_httpread.specs.declared.head.HeadNext.TheVariants as head
+use Rattle.sw_serve.specs.declared.end.ConnEnd.TheVariants as end
+use Rattle.sw_serve.specs.declared.turn.Turn.TheVariants.{Over}
+use Rattle.sw_serve.proofs.Turns.{body_open, body_read, body_refused, body_wants}
 use Rattle.sw_request.specs.declared.refusal.BadInput.TheVariants as bad
 use Rattle.sw_serve.proofs.turn.serve_body.Goals as goal
 
@@ -9,7 +13,7 @@ returns-in-Body-clause-takes g c =
     body_read _ _ _ _ _ _ _ _ _ _ _ c.in-Body.body _ _ _ _ c.in-Body.ensures.reads (sym c.serve_request.ensures.remaining) takes
 
 pub returns-in-Cut-clause-takes : goal.returns-in-Cut-clause-takes
-returns-in-Cut-clause-takes g c = rw c.read_body.ensures.written (body_cut _ _ _ _ _ _ _ _ _ _ _ _ c.in-Cut.ensures.reads refl)
+returns-in-Cut-clause-takes g c = rw c.read_body.ensures.written (body_open _ _ _ _ _ _ _ _ _ _ _ head.Cut body.Cut (Over end.Cut) _ (λ bytes told is. is) c.in-Cut.ensures.reads refl)
 
 pub returns-in-BadChunk-clause-takes : goal.returns-in-BadChunk-clause-takes
 returns-in-BadChunk-clause-takes g c =
@@ -22,7 +26,7 @@ returns-in-TooLarge-clause-takes g c =
     body_refused _ _ _ _ _ _ _ _ _ _ _ _ bad.TooLarge c.is_head-to_head.result _ _ _ _ c.in-TooLarge.ensures.reads c.in-TooLarge.ensures.reads.outcome c.is_head-to_head.ensures (sym c.refuse-in-TooLarge.ensures.remaining) refl sent
 
 pub returns-in-ReadFault-clause-takes : goal.returns-in-ReadFault-clause-takes
-returns-in-ReadFault-clause-takes g c = rw c.read_body.ensures.written (body_fault _ _ _ _ _ _ _ _ _ _ _ _ c.in-ReadFault.ensures.reads refl)
+returns-in-ReadFault-clause-takes g c = rw c.read_body.ensures.written (body_open _ _ _ _ _ _ _ _ _ _ _ head.ReadFault body.ReadFault (Over end.ReadFault) _ (λ bytes told is. is) c.in-ReadFault.ensures.reads refl)
 
 pub returns-in-NoMemory-clause-takes : goal.returns-in-NoMemory-clause-takes
 returns-in-NoMemory-clause-takes g c =
