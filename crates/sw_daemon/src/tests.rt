@@ -9,7 +9,7 @@ use std::alloc::Global;
 use std::test::Fail;
 use sw_hashdir::{HashDir, Listing};
 use sw_hashpath::Place;
-use sw_message::{Msg, Operation, Reply};
+use sw_message::{Msg, Operation, Reply, Sent};
 use sw_ring::Cluster;
 use sw_types::Items;
 
@@ -100,21 +100,39 @@ fn is_sent(device: u16, msg: &Msg, want: (u16, &str)) -> bool {
 // A message that is to come next, and what is answered.
 type Turn = (u16, &'static str, Answer);
 
+// The calls of a pass. Nothing is promised of these functions, which keeps the proofs of the tests short.
+fn sent(op: &mut PassOp) -> Result<Sent, Fail> {
+    Ok(op.next()?.ok_or("no message")?)
+}
+
+fn waits(op: &mut PassOp) -> Result<bool, Fail> {
+    Ok(op.next()?.is_none())
+}
+
+fn give(op: &mut PassOp, ticket: u64, reply: Option<Reply>) {
+    match reply {
+        Some(reply) => op.take(ticket, reply),
+        None => op.give_up(ticket),
+    }
+}
+
+fn has_ended(op: &PassOp) -> bool {
+    op.end().is_some()
+}
+
 // Answers each message before the next one is handed out; its ticket is the number of those before it.
 fn driven(alloc: Global, op: &mut PassOp, turns: &[Turn]) -> Result<(), Fail> {
     for (ticket, (device, kind, answer)) in turns.iter().enumerate() {
-        let sent = op.next()?.ok_or("no message")?;
+        let sent = sent(op)?;
         if sent.ticket != ticket as u64 || !is_sent(sent.device, &sent.msg, (*device, *kind)) {
             return Err("another message".into());
         }
-        match answer.reply(alloc)? {
-            Some(reply) => op.take(sent.ticket, reply),
-            None => op.give_up(sent.ticket),
-        }
+        give(op, sent.ticket, answer.reply(alloc)?);
     }
-    match op.next()? {
-        Some(_) => Err("more messages than answers".into()),
-        None => Ok(()),
+    if waits(op)? {
+        Ok(())
+    } else {
+        Err("more messages than answers".into())
     }
 }
 
@@ -253,19 +271,27 @@ fn treats_so_many_partitions(rt: HostRuntime) -> Result<(), Fail> {
     let cluster = Cluster::read(alloc, RING)?;
     let own = device_at(&cluster, 3).ok_or("no device")?;
     let mut op = PassOp::begin(alloc, &cluster, own);
-    let first = op.next()?.ok_or("no message")?;
+    let first = sent(&mut op)?;
     let mut listed = Vec::new(alloc);
     for _ in 0..65_537u32 {
         listed.push(1)?;
     }
-    op.take(first.ticket, Reply::PartList(Items::from(listed)));
+    give(
+        &mut op,
+        first.ticket,
+        Some(Reply::PartList(Items::from(listed))),
+    );
     for _ in 0..65_536u32 {
-        let sent = op.next()?.ok_or("too few messages")?;
+        let sent = sent(&mut op)?;
         if !is_sent(sent.device, &sent.msg, (3, "places 1")) {
             return Err("another message".into());
         }
-        op.take(sent.ticket, Reply::PlaceList(Items::from(Vec::new(alloc))));
+        give(
+            &mut op,
+            sent.ticket,
+            Some(Reply::PlaceList(Items::from(Vec::new(alloc)))),
+        );
     }
-    assert!(rt; op.next()?.is_none() && op.end().is_some());
+    assert!(rt; waits(&mut op)? && has_ended(&op));
     Ok(())
 }

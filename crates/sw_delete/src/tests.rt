@@ -4,7 +4,7 @@ use crate::{DeleteEnd, DeleteOp};
 use std::alloc::Global;
 use std::test::Fail;
 use sw_hashdir::{Floor, FloorKind};
-use sw_message::{Miss, Msg, Operation, Reply};
+use sw_message::{Miss, Msg, Operation, Reply, Sent};
 use sw_ring::{Cluster, built_in};
 use sw_types::{Name, Stamp};
 
@@ -40,21 +40,43 @@ fn begun(alloc: Global) -> Result<DeleteOp, Fail> {
     Ok(DeleteOp::begin(alloc, &cluster, stamp, &name)?)
 }
 
+// The calls of a delete. Nothing is promised of these functions, which keeps the proofs of the tests short.
+fn next(op: &mut DeleteOp) -> Result<Option<Sent>, Fail> {
+    Ok(op.next()?)
+}
+
+fn waits(op: &mut DeleteOp) -> Result<bool, Fail> {
+    Ok(next(op)?.is_none())
+}
+
+fn answer(op: &mut DeleteOp, ticket: u64, says: Says) -> Result<(), Fail> {
+    match says.reply()? {
+        Some(reply) => op.take(ticket, reply),
+        None => op.give_up(ticket),
+    }
+    Ok(())
+}
+
+fn is_open(op: &DeleteOp) -> bool {
+    !op.ended() && op.end().is_none()
+}
+
+fn has_ended(op: &DeleteOp, end: Ends) -> bool {
+    op.ended() && end.is(op.end())
+}
+
 // Answers each message before the next one is handed out, and gives how many there were.
 fn answered(op: &mut DeleteOp, says: &[Says]) -> Result<usize, Fail> {
     for (count, says) in says.iter().enumerate() {
-        let Some(sent) = op.next()? else {
+        let Some(sent) = next(op)? else {
             return Ok(count);
         };
         if usize::from(sent.device) != count || !matches!(sent.msg, Msg::Delete { .. }) {
             return Err("another message".into());
         }
-        match says.reply()? {
-            Some(reply) => op.take(sent.ticket, reply),
-            None => op.give_up(sent.ticket),
-        }
+        answer(op, sent.ticket, *says)?;
     }
-    match op.next()? {
+    match next(op)? {
         Some(_) => Err("more messages than answers".into()),
         None => Ok(says.len()),
     }
@@ -133,8 +155,7 @@ fn ends_by_the_answers(rt: HostRuntime) -> Result<(), Fail> {
     for (says, end) in cases {
         let mut op = begun(rt.alloc())?;
         assert_eq!(rt; answered(&mut op, says)?, says.len());
-        assert!(rt; op.ended());
-        assert!(rt; end.is(op.end()));
+        assert!(rt; has_ended(&op, end));
     }
     Ok(())
 }
@@ -143,23 +164,22 @@ fn ends_by_the_answers(rt: HostRuntime) -> Result<(), Fail> {
 fn waits_for_its_answers(rt: HostRuntime) -> Result<(), Fail> {
     let mut op = begun(rt.alloc())?;
     for device in 0..3u16 {
-        let sent = op.next()?.ok_or("no message")?;
+        let sent = next(&mut op)?.ok_or("no message")?;
         assert_eq!(rt; (sent.ticket, sent.device), (u64::from(device), device));
     }
-    assert!(rt; op.next()?.is_none());
-    op.take(7, Reply::Deleted { existed: true });
-    op.take(1, Reply::Deleted { existed: false });
-    op.take(1, Reply::Deleted { existed: true });
-    op.give_up(1);
-    op.take(0, Reply::Deleted { existed: false });
-    assert!(rt; op.next()?.is_none());
-    assert_eq!(rt; op.ended(), false);
-    assert!(rt; op.end().is_none());
-    op.give_up(2);
-    let sent = op.next()?.ok_or("no message")?;
+    assert!(rt; waits(&mut op)?);
+    answer(&mut op, 7, Says::Deleted(true))?;
+    answer(&mut op, 1, Says::Deleted(false))?;
+    answer(&mut op, 1, Says::Deleted(true))?;
+    answer(&mut op, 1, Says::Nothing)?;
+    answer(&mut op, 0, Says::Deleted(false))?;
+    assert!(rt; waits(&mut op)?);
+    assert!(rt; is_open(&op));
+    answer(&mut op, 2, Says::Nothing)?;
+    let sent = next(&mut op)?.ok_or("no message")?;
     assert_eq!(rt; (sent.ticket, sent.device), (3, 3));
-    op.take(3, Reply::DiskFault);
-    assert!(rt; op.next()?.is_none());
-    assert!(rt; Ends::Deleted(2, false).is(op.end()));
+    answer(&mut op, 3, Says::Missing)?;
+    assert!(rt; waits(&mut op)?);
+    assert!(rt; has_ended(&op, Ends::Deleted(2, false)));
     Ok(())
 }

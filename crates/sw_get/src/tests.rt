@@ -6,7 +6,7 @@ use std::alloc::Global;
 use std::test::Fail;
 use sw_archive::make_archive;
 use sw_hashdir::HashDir;
-use sw_message::{Miss, Operation, Reply, Target};
+use sw_message::{Miss, Operation, Reply, Sent, Target};
 use sw_ring::Cluster;
 use sw_types::{Bytes, Head, Name, Object, Policy, Stamp};
 
@@ -95,6 +95,19 @@ impl Answer {
     }
 }
 
+// The calls of a get. Nothing is promised of these functions, which keeps the proofs of the tests short.
+fn next(op: &mut GetOp) -> Result<Option<Sent>, Fail> {
+    Ok(op.next()?)
+}
+
+fn sent(op: &mut GetOp) -> Result<Sent, Fail> {
+    Ok(next(op)?.ok_or("no message")?)
+}
+
+fn waits(op: &mut GetOp) -> Result<bool, Fail> {
+    Ok(next(op)?.is_none())
+}
+
 fn give(op: &mut GetOp, ticket: u64, reply: Option<Reply>) {
     match reply {
         Some(reply) => op.take(ticket, reply),
@@ -102,19 +115,33 @@ fn give(op: &mut GetOp, ticket: u64, reply: Option<Reply>) {
     }
 }
 
+fn respond(alloc: Global, op: &mut GetOp, ticket: u64, answer: Answer) -> Result<(), Fail> {
+    give(op, ticket, answer.reply(alloc)?);
+    Ok(())
+}
+
+fn ends_so(op: &GetOp, end: Ends) -> bool {
+    op.ended() && end.is(op.end())
+}
+
+fn is_open(op: &GetOp) -> bool {
+    !op.ended() && op.end().is_none()
+}
+
 // Answers each message before the next one is handed out, and gives how many there were.
 fn driven(alloc: Global, op: &mut GetOp, rounds: u32, answers: &[Answer]) -> Result<usize, Fail> {
     for _ in 0..rounds {
         for (count, one) in answers.iter().enumerate() {
-            let Some(sent) = op.next()? else {
+            let Some(sent) = next(op)? else {
                 return Ok(count);
             };
-            give(op, sent.ticket, one.reply(alloc)?);
+            respond(alloc, op, sent.ticket, *one)?;
         }
     }
-    match op.next()? {
-        Some(_) => Err("more messages than answers".into()),
-        None => Ok(answers.len()),
+    if waits(op)? {
+        Ok(answers.len())
+    } else {
+        Err("more messages than answers".into())
     }
 }
 
@@ -191,8 +218,7 @@ fn ends_by_the_lists(rt: HostRuntime) -> Result<(), Fail> {
     for (rounds, answers, end) in cases {
         let mut op = begun(alloc)?;
         assert_eq!(rt; driven(alloc, &mut op, rounds, &answers)?, 4);
-        assert!(rt; op.ended());
-        assert!(rt; end.is(op.end()));
+        assert!(rt; ends_so(&op, end));
     }
     Ok(())
 }
@@ -249,8 +275,7 @@ fn ends_by_the_archives(rt: HostRuntime) -> Result<(), Fail> {
         answers.extend_from_slice(archives)?;
         let mut op = begun(alloc)?;
         assert_eq!(rt; driven(alloc, &mut op, rounds, &answers)?, answers.len());
-        assert!(rt; op.ended());
-        assert!(rt; end.is(op.end()));
+        assert!(rt; ends_so(&op, end));
     }
     Ok(())
 }
@@ -262,11 +287,11 @@ fn goes_round_again(rt: HostRuntime) -> Result<(), Fail> {
     let first = [SECOND, FIRST, Empty, Silence, Gone, Archive(7, 1)];
     let again = [SECOND, FIRST, Empty, Silence, Archive(7, 0), Archive(7, 1)];
     for one in first.iter().chain(&again) {
-        let sent = op.next()?.ok_or("no message")?;
-        give(&mut op, sent.ticket, one.reply(alloc)?);
+        let sent = sent(&mut op)?;
+        respond(alloc, &mut op, sent.ticket, *one)?;
     }
-    assert!(rt; op.next()?.is_none());
-    assert!(rt; Ends::Found(&[(0, 0), (1, 3)]).is(op.end()));
+    assert!(rt; waits(&mut op)?);
+    assert!(rt; ends_so(&op, Ends::Found(&[(0, 0), (1, 3)])));
     Ok(())
 }
 
@@ -276,12 +301,12 @@ fn is_overtaken_in_eight_rounds(rt: HostRuntime) -> Result<(), Fail> {
     let mut op = begun(alloc)?;
     for units in 1..9u64 {
         for one in [Durable(units, 0), Empty, Empty, Empty] {
-            let sent = op.next()?.ok_or("no message")?;
-            give(&mut op, sent.ticket, one.reply(alloc)?);
+            let sent = sent(&mut op)?;
+            respond(alloc, &mut op, sent.ticket, one)?;
         }
     }
-    assert!(rt; op.next()?.is_none());
-    assert!(rt; Ends::Overtaken(8).is(op.end()));
+    assert!(rt; waits(&mut op)?);
+    assert!(rt; ends_so(&op, Ends::Overtaken(8)));
     Ok(())
 }
 
@@ -289,24 +314,28 @@ fn is_overtaken_in_eight_rounds(rt: HostRuntime) -> Result<(), Fail> {
 fn waits_for_its_answers(rt: HostRuntime) -> Result<(), Fail> {
     let alloc = rt.alloc();
     let mut op = begun(alloc)?;
-    let sent = op.next()?.ok_or("no message")?;
-    assert_eq!(rt; (sent.ticket, sent.device), (0, 3));
-    assert!(rt; op.next()?.is_none());
-    give(&mut op, 9, Durable(7, 0).reply(alloc)?);
-    give(&mut op, 0, Empty.reply(alloc)?);
-    give(&mut op, 0, Durable(7, 0).reply(alloc)?);
+    let first = sent(&mut op)?;
+    assert_eq!(rt; (first.ticket, first.device), (0, 3));
+    assert!(rt; waits(&mut op)?);
+    respond(alloc, &mut op, 9, Durable(7, 0))?;
+    respond(alloc, &mut op, 0, Empty)?;
+    respond(alloc, &mut op, 0, Durable(7, 0))?;
     for device in 0..3u16 {
-        let sent = op.next()?.ok_or("no message")?;
+        let sent = sent(&mut op)?;
         assert_eq!(rt; (sent.ticket, sent.device), (u64::from(device) + 1, device));
     }
-    assert!(rt; op.next()?.is_none());
-    give(&mut op, 3, None);
-    give(&mut op, 1, Empty.reply(alloc)?);
-    assert!(rt; op.next()?.is_none());
-    assert_eq!(rt; op.ended(), false);
-    assert!(rt; op.end().is_none());
-    give(&mut op, 2, None);
-    assert!(rt; op.next()?.is_none());
-    assert!(rt; Ends::Unanswered(&[(2, Miss::NoReply), (1, Miss::NoReply)]).is(op.end()));
+    assert!(rt; waits(&mut op)?);
+    respond(alloc, &mut op, 3, Silence)?;
+    respond(alloc, &mut op, 1, Empty)?;
+    assert!(rt; waits(&mut op)?);
+    assert!(rt; is_open(&op));
+    respond(alloc, &mut op, 2, Silence)?;
+    assert!(rt; waits(&mut op)?);
+    assert!(rt;
+        ends_so(
+            &op,
+            Ends::Unanswered(&[(2, Miss::NoReply), (1, Miss::NoReply)])
+        )
+    );
     Ok(())
 }

@@ -68,21 +68,39 @@ fn begun(alloc: Global) -> Result<PutOp, Fail> {
     Ok(PutOp::begin(alloc, &cluster, stamp, &name, &object)?)
 }
 
+// The calls of a put. Nothing is promised of these functions, which keeps the proofs of the tests short.
+fn next(op: &mut PutOp) -> Result<Option<Sent>, Fail> {
+    Ok(op.next()?)
+}
+
+fn answer(op: &mut PutOp, ticket: u64, says: Says) -> Result<(), Fail> {
+    match says.reply()? {
+        Some(reply) => op.take(ticket, reply),
+        None => op.give_up(ticket),
+    }
+    Ok(())
+}
+
+fn is_open(op: &PutOp) -> bool {
+    !op.ended() && op.end().is_none()
+}
+
+fn has_ended(op: &PutOp, end: Ends) -> bool {
+    op.ended() && end.is(op.end())
+}
+
 // Answers each message before the next one is handed out, and gives how many there were.
 fn answered(op: &mut PutOp, steps: &[(Goes, Says)]) -> Result<usize, Fail> {
     for (count, (goes, says)) in steps.iter().enumerate() {
-        let Some(sent) = op.next()? else {
+        let Some(sent) = next(op)? else {
             return Ok(count);
         };
         if !goes.is(&sent) {
             return Err("another message".into());
         }
-        match says.reply()? {
-            Some(reply) => op.take(sent.ticket, reply),
-            None => op.give_up(sent.ticket),
-        }
+        answer(op, sent.ticket, *says)?;
     }
-    match op.next()? {
+    match next(op)? {
         Some(_) => Err("more messages than answers".into()),
         None => Ok(steps.len()),
     }
@@ -120,7 +138,7 @@ impl Ends {
 fn ends_so(alloc: Global, steps: &[(Goes, Says)], end: Ends) -> Result<bool, Fail> {
     let mut op = begun(alloc)?;
     let count = answered(&mut op, steps)?;
-    Ok(count == steps.len() && op.ended() && end.is(op.end()))
+    Ok(count == steps.len() && has_ended(&op, end))
 }
 
 #[test]
@@ -221,16 +239,13 @@ impl Event {
     // Whether it happens.
     fn happens(self, op: &mut PutOp) -> Result<bool, Fail> {
         match self {
-            Event::Hands(goes) => Ok(match op.next()? {
+            Event::Hands(goes) => Ok(match next(op)? {
                 Some(sent) => goes.is(&sent),
                 None => false,
             }),
-            Event::Waits => Ok(op.next()?.is_none() && !op.ended() && op.end().is_none()),
+            Event::Waits => Ok(next(op)?.is_none() && is_open(op)),
             Event::Answers(ticket, says) => {
-                match says.reply()? {
-                    Some(reply) => op.take(ticket, reply),
-                    None => op.give_up(ticket),
-                }
+                answer(op, ticket, says)?;
                 Ok(true)
             }
         }
@@ -268,7 +283,7 @@ fn waits_for_its_answers(rt: HostRuntime) -> Result<(), Fail> {
     for event in events {
         assert!(rt; event.happens(&mut op)?);
     }
-    assert!(rt; op.next()?.is_none());
-    assert!(rt; Ends::Created(2).is(op.end()));
+    assert!(rt; next(&mut op)?.is_none());
+    assert!(rt; has_ended(&op, Ends::Created(2)));
     Ok(())
 }

@@ -8,7 +8,7 @@ use std::alloc::Global;
 use std::test::Fail;
 use sw_archive::make_archive;
 use sw_hashdir::{Floor, FloorKind, HashDir, Listing};
-use sw_message::{Foreign, Miss, Msg, Operation, Reply, Spoil};
+use sw_message::{Foreign, Miss, Msg, Operation, Reply, Sent, Spoil};
 use sw_ring::Cluster;
 use sw_types::{Bytes, Head, Name, Object, Policy, Stamp};
 
@@ -115,11 +115,33 @@ fn is_sent(device: u16, msg: &Msg, want: (u16, &str)) -> bool {
     device == want.0 && kind == want.1
 }
 
+// The calls of a revert. Nothing is promised of these functions, which keeps the proofs of the tests short.
+fn next(job: &mut RevertJob) -> Result<Option<Sent>, Fail> {
+    Ok(job.next()?)
+}
+
+fn sent(job: &mut RevertJob) -> Result<Sent, Fail> {
+    Ok(next(job)?.ok_or("no message")?)
+}
+
+fn waits(job: &mut RevertJob) -> Result<bool, Fail> {
+    Ok(next(job)?.is_none())
+}
+
 fn give(job: &mut RevertJob, ticket: u64, reply: Option<Reply>) {
     match reply {
         Some(reply) => job.take(ticket, reply),
         None => job.give_up(ticket),
     }
+}
+
+fn respond(alloc: Global, job: &mut RevertJob, ticket: u64, answer: Answer) -> Result<(), Fail> {
+    give(job, ticket, answer.reply(alloc)?);
+    Ok(())
+}
+
+fn is_open(job: &RevertJob) -> bool {
+    !job.ended() && job.end().is_none()
 }
 
 // A message that is to come next, and what is answered.
@@ -128,13 +150,13 @@ type Turn = (u16, &'static str, Answer);
 // Answers each message before the next one is handed out.
 fn driven(alloc: Global, job: &mut RevertJob, turns: &[Turn]) -> Result<(), Fail> {
     for (device, kind, answer) in turns {
-        let sent = job.next()?.ok_or("no message")?;
+        let sent = sent(job)?;
         if !is_sent(sent.device, &sent.msg, (*device, *kind)) {
             return Err("another message".into());
         }
         give(job, sent.ticket, answer.reply(alloc)?);
     }
-    match job.next()? {
+    match next(job)? {
         Some(_) => Err("more messages than answers".into()),
         None => Ok(()),
     }
@@ -332,24 +354,23 @@ fn waits_for_its_answer(rt: HostRuntime) -> Result<(), Fail> {
     let alloc = rt.alloc();
     let cluster = Cluster::read(alloc, RING)?;
     let mut job = begun(alloc, &cluster)?;
-    give(&mut job, 0, NOTHING.reply(alloc)?);
-    let sent = job.next()?.ok_or("no message")?;
-    assert_eq!(rt; (sent.ticket, sent.device), (0, 3));
-    assert!(rt; job.next()?.is_none());
-    give(&mut job, 7, NOTHING.reply(alloc)?);
-    assert!(rt; job.next()?.is_none());
-    give(&mut job, 0, SEVEN.reply(alloc)?);
-    give(&mut job, 0, NOTHING.reply(alloc)?);
-    assert_eq!(rt; job.ended(), false);
-    assert!(rt; job.end().is_none());
-    let sent = job.next()?.ok_or("no message")?;
-    assert_eq!(rt; (sent.ticket, sent.device), (1, 1));
-    give(&mut job, 1, PLAIN.reply(alloc)?);
-    let sent = job.next()?.ok_or("no message")?;
-    assert_eq!(rt; (sent.ticket, sent.device), (2, 3));
-    assert!(rt; is_sent(sent.device, &sent.msg, (3, "fetch")));
-    give(&mut job, 2, None);
-    assert!(rt; job.next()?.is_none());
+    respond(alloc, &mut job, 0, NOTHING)?;
+    let first = sent(&mut job)?;
+    assert_eq!(rt; (first.ticket, first.device), (0, 3));
+    assert!(rt; waits(&mut job)?);
+    respond(alloc, &mut job, 7, NOTHING)?;
+    assert!(rt; waits(&mut job)?);
+    respond(alloc, &mut job, 0, SEVEN)?;
+    respond(alloc, &mut job, 0, NOTHING)?;
+    assert!(rt; is_open(&job));
+    let second = sent(&mut job)?;
+    assert_eq!(rt; (second.ticket, second.device), (1, 1));
+    respond(alloc, &mut job, 1, PLAIN)?;
+    let third = sent(&mut job)?;
+    assert_eq!(rt; (third.ticket, third.device), (2, 3));
+    assert!(rt; is_sent(third.device, &third.msg, (3, "fetch")));
+    respond(alloc, &mut job, 2, Silence)?;
+    assert!(rt; waits(&mut job)?);
     let gone = KeptCause::Missed(Miss::NoReply);
     assert!(rt; is_done(job.end(), 0, &[(7, 1, gone)]));
     Ok(())

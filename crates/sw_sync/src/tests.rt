@@ -11,7 +11,7 @@ use std::alloc::Global;
 use std::test::Fail;
 use sw_archive::make_archive;
 use sw_hashdir::{Floor, FloorKind, HashDir, Listing};
-use sw_message::{Foreign, Miss, Msg, Operation, Reply, Spoil, primaries};
+use sw_message::{Foreign, Miss, Msg, Operation, Reply, Sent, Spoil, primaries};
 use sw_ring::Cluster;
 use sw_types::{Bytes, Head, Name, Object, Policy, Stamp};
 
@@ -145,11 +145,37 @@ fn is_whole(alloc: Global, msg: &Msg) -> Result<bool, Fail> {
     }
 }
 
+// The calls of a sync. Nothing is promised of these functions, which keeps the proofs of the tests short.
+fn next(job: &mut SyncJob) -> Result<Option<Sent>, Fail> {
+    Ok(job.next()?)
+}
+
+fn sent(job: &mut SyncJob) -> Result<Sent, Fail> {
+    Ok(next(job)?.ok_or("no message")?)
+}
+
+fn waits(job: &mut SyncJob) -> Result<bool, Fail> {
+    Ok(next(job)?.is_none())
+}
+
 fn give(job: &mut SyncJob, ticket: u64, reply: Option<Reply>) {
     match reply {
         Some(reply) => job.take(ticket, reply),
         None => job.give_up(ticket),
     }
+}
+
+fn respond(alloc: Global, job: &mut SyncJob, ticket: u64, answer: Answer) -> Result<(), Fail> {
+    give(job, ticket, answer.reply(alloc)?);
+    Ok(())
+}
+
+fn is_open(job: &SyncJob) -> bool {
+    !job.ended() && job.end().is_none()
+}
+
+fn end_of(job: SyncJob) -> Result<SyncEnd, Fail> {
+    Ok(job.into_end().ok_or("not over")?)
 }
 
 // A message that is to come next, and what is answered.
@@ -158,7 +184,7 @@ type Turn = (u16, &'static str, Answer);
 // The next message is this one, and is answered so.
 fn answered(alloc: Global, job: &mut SyncJob, turn: &Turn) -> Result<(), Fail> {
     let (device, kind, answer) = *turn;
-    let sent = job.next()?.ok_or("no message")?;
+    let sent = sent(job)?;
     if !is_sent(sent.device, &sent.msg, (device, kind)) || !is_whole(alloc, &sent.msg)? {
         return Err("another message".into());
     }
@@ -191,10 +217,10 @@ fn ended(alloc: Global, answers: [Answer; 4], turns: &[Turn]) -> Result<SyncEnd,
     let mut job = begun(alloc, &cluster)?;
     asked(alloc, &mut job, answers)?;
     driven(alloc, &mut job, turns)?;
-    if job.next()?.is_some() {
+    if !waits(&mut job)? {
         return Err("more messages than answers".into());
     }
-    Ok(job.into_end().ok_or("not over")?)
+    end_of(job)
 }
 
 // Whether it is done, with so many commits, archives rebuilt and tombstones, and these failures.
@@ -434,32 +460,31 @@ fn waits_for_answers(rt: HostRuntime) -> Result<(), Fail> {
     let alloc = rt.alloc();
     let cluster = Cluster::read(alloc, RING)?;
     let mut job = begun(alloc, &cluster)?;
-    give(&mut job, 0, NOTHING.reply(alloc)?);
-    let sent = job.next()?.ok_or("no message")?;
-    assert_eq!(rt; (sent.ticket, sent.device), (0, 3));
-    assert!(rt; job.next()?.is_none());
-    give(&mut job, 7, NOTHING.reply(alloc)?);
-    assert!(rt; job.next()?.is_none());
-    give(&mut job, 0, NOTHING.reply(alloc)?);
-    give(&mut job, 0, BURIED.reply(alloc)?);
+    respond(alloc, &mut job, 0, NOTHING)?;
+    let first = sent(&mut job)?;
+    assert_eq!(rt; (first.ticket, first.device), (0, 3));
+    assert!(rt; waits(&mut job)?);
+    respond(alloc, &mut job, 7, NOTHING)?;
+    assert!(rt; waits(&mut job)?);
+    respond(alloc, &mut job, 0, NOTHING)?;
+    respond(alloc, &mut job, 0, BURIED)?;
     for device in 0..3u16 {
-        let sent = job.next()?.ok_or("no message")?;
+        let sent = sent(&mut job)?;
         assert!(rt; sent.ticket == device as u64 + 1 && sent.device == device);
         assert!(rt; is_sent(sent.device, &sent.msg, (device, "ask")));
     }
-    assert!(rt; job.next()?.is_none());
-    give(&mut job, 2, SECOND.reply(alloc)?);
-    give(&mut job, 1, FIRST.reply(alloc)?);
-    assert!(rt; job.next()?.is_none());
-    give(&mut job, 3, None);
-    assert_eq!(rt; job.ended(), false);
-    assert!(rt; job.end().is_none());
-    assert!(rt; job.next()?.is_none());
+    assert!(rt; waits(&mut job)?);
+    respond(alloc, &mut job, 2, SECOND)?;
+    respond(alloc, &mut job, 1, FIRST)?;
+    assert!(rt; waits(&mut job)?);
+    respond(alloc, &mut job, 3, Silence)?;
+    assert!(rt; is_open(&job));
+    assert!(rt; waits(&mut job)?);
     let silent = Failure::Missed {
         device: 2,
         miss: Miss::NoReply,
     };
-    let end = job.end().ok_or("not over")?;
-    assert!(rt; is_done(end, (0, 0, 0), &[silent]));
+    let end = end_of(job)?;
+    assert!(rt; is_done(&end, (0, 0, 0), &[silent]));
     Ok(())
 }
