@@ -1,3 +1,4 @@
+pub mod Clusters
 pub mod Crashes
 pub mod Cuts
 pub mod Devices

@@ -1,7 +1,8 @@
-//! A law of events, the contract of a function without arguments.
+//! Laws of what is determined, each the contract of a function without arguments.
 
 ghost use Rattle.std.specs.Prelude.{◌≡◌, ℕ, List};
-ghost use Rattle.sw_ring.specs.Cluster.{ClusterModel};
+ghost use Rattle.sw_ring.specs.Cluster.{ClusterModel, IsCluster};
+ghost use Rattle.sw_ring.specs.Members.{RingMembers};
 ghost use Rattle.sw_core.specs.Event.{Event, Happens, IsRun};
 ghost use Rattle.sw_core.specs.World.{World};
 ghost use Rattle.sw_determined.specs.Cut.{IsCutWithin};
@@ -20,3 +21,8 @@ pub fn event_law()
 {
     step_law();
 }
+
+/// The members of a ring's text say one cluster.
+pub fn cluster_law()
+    ensures { (members : RingMembers) (one other : ClusterModel) → IsCluster members one → IsCluster members other → one ≡ other }
+{}

@@ -1,6 +1,6 @@
-//! What a basic event leads to is determined, where disks are sure.
+//! What is determined: the cluster that a ring says, and, where disks are sure, what a basic event leads to.
 #![tactic(auto)]
 
 mod laws;
 
-pub use crate::laws::event_law;
+pub use crate::laws::{cluster_law, event_law};

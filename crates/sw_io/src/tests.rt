@@ -1,5 +1,7 @@
 //! What comes and what goes, in memory and over std's readers and writers.
 
+ghost use Rattle.std.specs.Prelude.{◌<◌, length};
+
 use super::*;
 use std::io;
 use std::io::{ErrorKind, Read, Write};
@@ -140,7 +142,9 @@ fn gives(conn: &mut MemConn, want: &str) -> Result<bool, Fail> {
     Ok(&room[..count] == want.as_bytes())
 }
 
-fn takes(conn: &mut MemConn, bytes: &[u8]) -> Result<usize, Fail> {
+fn takes(conn: &mut MemConn, bytes: &[u8]) -> Result<usize, Fail>
+    requires { 0 < length bytes.now }
+{
     Ok(conn.write(bytes)?)
 }
 

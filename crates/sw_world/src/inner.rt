@@ -4,6 +4,7 @@ ghost use Rattle.std.specs.Prelude.{◌≡◌, ◌≤◌, ◌++◌, suc, [], ◌
 ghost use Rattle.sw_ring.specs.Cluster.{KeepsRules};
 ghost use Rattle.sw_core.specs.World.{first_clock};
 ghost use Rattle.sw_script.specs.declared.event.Event.TheVariants as event;
+ghost use Rattle.sw_script.specs.declared.event.Event.TheVariants.{All};
 ghost use Rattle.sw_told.specs.declared.sent.SentLine.TheVariants.{Started};
 ghost use Rattle.sw_world.specs.Leading.{DoesIt, FaultsBy};
 ghost use Rattle.sw_exchange.specs.Letters.{lines_from};
@@ -68,6 +69,7 @@ impl<'a> Inner<'a> {
         requires { Stands self.old }
         ensures does { (before : Scripted) → StandsFor self.old before → IfOk result (λ told. DoesIt event.now before told self.new) }
         ensures faults { (before : Scripted) → StandsFor self.old before → IfErr result (λ fault. FaultsBy event.now before fault self.old self.new) }
+        ensures behind { event.now ≡ All → OnOk result (self.new.first ≡ length self.new.letters) }
         ensures cluster { self.new.cluster ≡ self.old.cluster }
     {
         match event {

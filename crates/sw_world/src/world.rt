@@ -1,6 +1,7 @@
 //! The world of a script.
 
-ghost use Rattle.std.specs.Prelude.{◌≡◌, true, IfErr, IfOk, IsErrOf};
+ghost use Rattle.std.specs.Prelude.{◌≡◌, length, true, IfErr, IfOk, IsErrOf, OnOk};
+ghost use Rattle.sw_script.specs.declared.event.Event.TheVariants.{All};
 ghost use Rattle.sw_world.specs.Leading.{DoesIt, FaultsBy};
 ghost use Rattle.sw_world.specs.Scripted.{Scripted, empty_script};
 ghost use Rattle.sw_world.specs.Standing.{StandsFor};
@@ -72,6 +73,8 @@ impl<'a> World<'a> {
     pub fn step(&mut self, event: &Event) -> Result<Told, StepFault>
         ensures does { (before : Scripted) → StandsFor self.old before → IfOk result (λ told. DoesIt event.now before told self.new) }
         ensures faults { (before : Scripted) → StandsFor self.old before → IfErr result (λ fault. FaultsBy event.now before fault self.old self.new) }
+        // Where each message was delivered, none of those that there are is looked at again.
+        ensures behind { event.now ≡ All → OnOk result (self.new.first ≡ length self.new.letters) }
         ensures wants { IsErrOf result StepFault.NoMemory → self.new.is_wanting ≡ true }
         ensures wanted { self.old.is_wanting ≡ true → IsErrOf result StepFault.NoMemory × (self.new ≡ self.old) }
         ensures cluster { self.new.cluster ≡ self.old.cluster }

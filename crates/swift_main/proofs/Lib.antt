@@ -1,3 +1,4 @@
+mod Alike
 mod EmptyLines
 mod Outcomes
 mod Outsides
