@@ -39,6 +39,7 @@ status_by (ended.Spent line) = Spent line
 status_by ended.NoMemory = NoMemory
 
 status_is : (status : Status) (end : PlayEnd) → EndsAs status end → status ≡ status_by end
+unfolding status_by
 status_is Done end is = sym (ap status_by is)
 status_is (Line line fault) end is = sym (ap status_by is)
 status_is (Spent line) end is = sym (ap status_by is)
@@ -50,6 +51,7 @@ status_is WriteFault end none = absurd none
 status_is TooLong end none = absurd none
 
 wants_none : (status : Status) (end : PlayEnd) → EndsAs status end → status ≢ NoMemory → end ≢ ended.NoMemory
+unfolding status_by
 wants_none status end as_told some is = some (status_is status end as_told ∙ ap status_by is)
 
 module _ (cluster_law : ClusterLaw) (text_law : TextLaw) where
@@ -60,9 +62,9 @@ module _ (cluster_law : ClusterLaw) (text_law : TextLaw) where
 
   ring_alike : (ring : Result RingMembers RingFault) (script : List ℕ) → AreAlike (RingGives ring script)
   ring_alike (Err fault) script = alone (Ring fault)
-  ring_alike (Ok members) script one other told others (cluster, is, rules, gives) (second, are, _, given) =
-      let gives_other = subst (λ (of : ClusterModel). ScriptGives of script other others) (sym (cluster_law members cluster second is are)) given in
-      script_alike cluster rules script one other told others gives gives_other
+  ring_alike (Ok members) script = λ one other told others gives given.
+      let gives_other = subst (λ (of : ClusterModel). ScriptGives of script other others) (sym (cluster_law members gives.0 given.0 gives.1 given.1)) given.3 in
+      script_alike gives.0 gives.2 script one other told others gives.3 gives_other
 
   input_alike : (too_long : Bool) (input : List ℕ) → AreAlike (InputGives too_long input)
   input_alike true input = alone TooLong

@@ -1,0 +1,4 @@
+pub mod Changing
+pub mod HandingBack
+pub mod Takings
+pub mod Placing

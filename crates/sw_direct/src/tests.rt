@@ -1,0 +1,91 @@
+//! Puts and a get over nodes on disks of a shelf in memory, by a clock that stands.
+
+ghost use Rattle.std.specs.Prelude.{◌≡◌};
+
+use crate::{DirectLink, hand_back, mount_all};
+use std::alloc::Global;
+use std::test::Fail;
+use sw_front::{get, put};
+use sw_get::GetEnd;
+use sw_io::MemClock;
+use sw_memdisk::MemDisk;
+use sw_memshelf::MemShelf;
+use sw_put::PutEnd;
+use sw_ring::{Cluster, built_in};
+use sw_shelf::ShelfFault;
+use sw_types::{Bytes, Head, Name, Object, Stamp};
+
+fn stamp(units: u64) -> Result<Stamp, Fail> {
+    Ok(Stamp::make(units).ok_or("too great")?)
+}
+
+// A put of this body as a/c/o over the link: its stamp, where it is created.
+fn created(
+    alloc: Global,
+    cluster: &Cluster,
+    link: &mut DirectLink<'_, MemDisk, MemClock>,
+    body: &[u8],
+) -> Result<u64, Fail>
+    requires { link.old.cluster ≡ cluster.now }
+    ensures { link.new.cluster ≡ link.old.cluster }
+{
+    let name = Name::make(alloc, b"a", b"c", b"o")?;
+    let head = Head::make(alloc, b"text/plain", &[])?;
+    let object = Object::make(head, Bytes::from_slice(alloc, body)?)
+        .ok()
+        .ok_or("too long")?;
+    match put(alloc, cluster, link, &name, &object)? {
+        PutEnd::Created { stamp, commits: 3 } => Ok(stamp.units()),
+        _ => Err("not created".into()),
+    }
+}
+
+// Whether a get of a/c/o finds this body at this stamp.
+fn finds(
+    alloc: Global,
+    cluster: &Cluster,
+    link: &mut DirectLink<'_, MemDisk, MemClock>,
+    units: u64,
+    body: &[u8],
+) -> Result<bool, Fail>
+    requires { link.old.cluster ≡ cluster.now }
+    ensures { link.new.cluster ≡ link.old.cluster }
+{
+    let name = Name::make(alloc, b"a", b"c", b"o")?;
+    match get(alloc, cluster, link, &name)? {
+        GetEnd::Found { stamp, object, .. } => {
+            Ok(stamp.units() == units && object.body().as_slice() == body)
+        }
+        _ => Ok(false),
+    }
+}
+
+#[test]
+fn puts_and_gets(rt: HostRuntime) -> Result<(), Fail> {
+    let alloc = rt.alloc();
+    let cluster = Cluster::read(alloc, built_in())?;
+    let clock = MemClock::new(stamp(7)?);
+    let mut shelf = MemShelf::new(alloc);
+    let nodes = mount_all(alloc, &cluster, &mut shelf)?;
+    let mut link = DirectLink::new(alloc, &cluster, &clock, nodes);
+    assert_eq!(rt; created(alloc, &cluster, &mut link, b"abc")?, 7);
+    assert_eq!(rt; created(alloc, &cluster, &mut link, b"abd")?, 8);
+    assert!(rt; finds(alloc, &cluster, &mut link, 8, b"abd")?);
+    assert!(rt; !link.wants());
+    hand_back(&cluster, &mut shelf, link.into_nodes());
+    assert_eq!(rt; shelf.returned().len(), 4);
+    Ok(())
+}
+
+// The disks that were handed out before one is refused are back.
+#[test]
+fn gives_up_where_a_disk_is_refused(rt: HostRuntime) -> Result<(), Fail> {
+    let alloc = rt.alloc();
+    let cluster = Cluster::read(alloc, built_in())?;
+    let mut shelf = MemShelf::new(alloc);
+    shelf.refuse(2);
+    let refused = mount_all(alloc, &cluster, &mut shelf).err();
+    assert_eq!(rt; refused, Some(ShelfFault::Failed));
+    assert_eq!(rt; shelf.returned().len(), 2);
+    Ok(())
+}
