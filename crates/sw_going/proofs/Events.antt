@@ -1,29 +1,34 @@
 -- Each basic event that may happen to a world of a run leads to some world.
-use Rattle.std.proofs.Common.{◌≡◌, ◌⊎◌, inl, inr, ℕ, ◌+◌, Bool, true, false, Contains, List, [], ◌∷◌, ◌++◌, length, Option, Some, None, refl}
+use Rattle.std.proofs.Common.{◌≡◌, ℕ, ◌+◌, Bool, true, false, Contains, List, [], ◌∷◌, ◌++◌, length, Option, Some, None, refl, sym, subst}
 use Rattle.std.specs.Prelude.{MatchBool}
 use Rattle.sw_types.specs.Name.{NameModel}
 use Rattle.sw_ring.specs.Cluster.{ClusterModel, KeepsRules, ids_of, place_of_name}
 use Rattle.sw_ring.specs.Ring.{is_among}
-use Rattle.sw_message.specs.Message.{is_primary}
+use Rattle.sw_message.specs.Learnt.{IsSoundBook}
+use Rattle.sw_message.specs.Message.{IsMember, is_primary}
 use Rattle.sw_message.specs.Transcript.{Step, told}
 use Rattle.sw_message.specs.declared.reply.Reply.{Reply}
 use Rattle.sw_message.specs.declared.sent.Sent.{Sent}
+use Rattle.sw_quorum.specs.Places.{place_right}
 use Rattle.sw_delete.specs.Delete as deletes
 use Rattle.sw_put.specs.Put as puts
 use Rattle.sw_scene.specs.Moves.{CrashesMounting, Crashes, Fails, Handles, Restarts, books, lost, marks, sends, stopped}
-use Rattle.sw_scene.specs.Scene.{Answer, Mail, Request, Scene, is_down, is_up}
+use Rattle.sw_scene.specs.Scene.{Answer, Mail, Request, Scene, is_down, is_up, known_to}
 use Rattle.sw_core.specs.Event.{Begins, Comes, Crash, CrashMount, Delete, Deliver, Event, Fault, Get, GiveUp, Happens, Head, IsRun, IsTold, Job, Lose, OnRequest, OnScene, Proceeds, Put, Recon, Restart, SetClock, Start, Starts, Stop, begins, idle, recon_of, stamp_in, with_scene}
-use Rattle.sw_core.specs.Operating.{Begun, Delete as DeleteBegun, Get as GetBegun, Head as HeadBegun, Put as PutBegun, Revert, Sync}
+use Rattle.sw_core.specs.Operating.{Begun, Delete as DeleteBegun, Get as GetBegun, Head as HeadBegun, IsBegun, Put as PutBegun, cluster_of}
+use Rattle.sw_core.specs.Sound.{IsSoundWorld, Stands}
 use Rattle.sw_core.specs.World.{Operating, World, numbered, with_numbered}
+use Rattle.sw_core.proofs.Happening.{run-sound}
 use Rattle.sw_core.proofs.Numbered.{numbered-contains}
+use Rattle.sw_core.proofs.Telling.{answered-stands, given_up-stands}
 use Rattle.sw_kept.specs.Kept.{KeepsAll}
 use Rattle.sw_promise.proofs.Runs.{run_keeps_all}
 use Rattle.sw_possible.proofs.Moves.{crashes, crashes_mounting, fails, handles, restarts}
-use Rattle.sw_going.specs.Going.{IsWrite, MayCome, MayHappenTo, MayStart, TakesAny}
-use Rattle.sw_going.proofs.Gets.{get_starts, head_starts}
-use Rattle.sw_going.proofs.Jobs.{revert_starts, sync_starts}
+use Rattle.sw_going.specs.Going.{MayHappenTo, MayStart}
+use Rattle.sw_going.proofs.Brought.{none_stored}
+use Rattle.sw_going.proofs.Operations.{rests_of, standing_rests}
+use Rattle.sw_going.proofs.Replies.{AllRight, run_right}
 use Rattle.sw_going.proofs.Rests.{ComesToRest}
-use Rattle.sw_going.proofs.Writes.{delete_rests, put_rests}
 
 -- some world
 abbrev Some_world : (World → Type 0) → Type 0
@@ -39,10 +44,7 @@ proceeds world number operation past rest =
       record { sents = rest.sents; later = later; goes_on = record { handed = rest.handed; rests = rest.rests; same = refl }; after_is = refl },
     )
 
-begins_so : (world : World) (begun : Begun) (scene : Scene) → ComesToRest begun [] → Some_world (Begins begun scene world)
-begins_so world begun scene rest = proceeds (record world { scene = scene; operations = world.operations ++ begins begun world ∷ [] }) (length world.operations + 1) (begins begun world) [] rest
-
-module _ (world : World) (keeps : KeepsAll world.scene) where
+module _ (world : World) (keeps : KeepsAll world.scene) (right : AllRight world.scene) where
   -- ---- starts
 
   abbrev cluster : ClusterModel
@@ -51,39 +53,42 @@ module _ (world : World) (keeps : KeepsAll world.scene) where
   rules : KeepsRules cluster
   rules = keeps.sound.rules
 
-  recons : (device : ℕ) (name : NameModel) (primary : Bool) → Some_world (Begins (recon_of primary cluster device name) world.scene world)
-  recons device name true = begins_so world (recon_of true cluster device name) world.scene (sync_starts (record { cluster = cluster; device = device; place = place_of_name cluster name }))
-  recons device name false = begins_so world (recon_of false cluster device name) world.scene (revert_starts (record { cluster = cluster; device = device; place = place_of_name cluster name }))
+  begins_so : (begun : Begun) → cluster_of begun ≡ cluster → IsBegun begun → (scene : Scene) → Some_world (Begins begun scene world)
+  begins_so begun same valid scene =
+      let book = (known_to world.scene).book in
+      let sound = subst (λ (one : ClusterModel). IsSoundBook one.policy book) (sym same) keeps.sound.book in
+      proceeds (record world { scene = scene; operations = world.operations ++ begins begun world ∷ [] }) (length world.operations + 1) (begins begun world) []
+      (rests_of begun valid book sound [] tt (none_stored (cluster_of begun) book))
+
+  recons : (device : ℕ) (name : NameModel) → IsMember cluster device → (primary : Bool) → is_primary cluster device (place_of_name cluster name) ≡ primary → Some_world (Begins (recon_of primary cluster device name) world.scene world)
+  recons device name member true is = begins_so (recon_of true cluster device name) refl (record { rules = rules; right = place_right cluster name; primary = is }) world.scene
+  recons device name member false is = begins_so (recon_of false cluster device name) refl (record { rules = rules; right = place_right cluster name; member = member; handoff = is }) world.scene
 
   starts : (job : Job) → MayStart world job → Some_world (Starts job world)
   starts (Put name object) may =
       let begun : puts.Begun = record { cluster = cluster; stamp = stamp_in world; name = name; object = object } in
-      let is = begins_so world (PutBegun begun) (books (stamp_in world) name object world.scene) (put_rests begun []) in (is.0, (may.0, may.1, is.1))
+      let is = begins_so (PutBegun begun) refl (record { rules = rules }) (books (stamp_in world) name object world.scene) in (is.0, (may.0, may.1, is.1))
   starts (Delete name) may =
       let begun : deletes.Begun = record { cluster = cluster; stamp = stamp_in world; name = name } in
-      let is = begins_so world (DeleteBegun begun) (marks (stamp_in world) name world.scene) (delete_rests begun []) in (is.0, (may, is.1))
-  starts (Get name) may = begins_so world (GetBegun (record { cluster = cluster; name = name })) world.scene (get_starts (record { cluster = cluster; name = name }) (record { rules = rules }))
-  starts (Head name) may = begins_so world (HeadBegun (record { cluster = cluster; name = name })) world.scene (head_starts (record { cluster = cluster; name = name }) (record { rules = rules }))
-  starts (Recon device name) may = let is = recons device name (is_primary cluster device (place_of_name cluster name)) in (is.0, (may, is.1))
+      let is = begins_so (DeleteBegun begun) refl (record { rules = rules }) (marks (stamp_in world) name world.scene) in (is.0, (may, is.1))
+  starts (Get name) may = begins_so (GetBegun (record { cluster = cluster; name = name })) refl (record { rules = rules }) world.scene
+  starts (Head name) may = begins_so (HeadBegun (record { cluster = cluster; name = name })) refl (record { rules = rules }) world.scene
+  starts (Recon device name) may = let is = recons device name may (is_primary cluster device (place_of_name cluster name)) refl in (is.0, (may, is.1))
 
   -- ---- answers
 
-  write_rests : (begun : Begun) → IsWrite begun → (past : List Step) → ComesToRest begun past
-  write_rests (PutBegun begun) write past = put_rests begun past
-  write_rests (DeleteBegun begun) write past = delete_rests begun past
-  write_rests (GetBegun begun) none past = absurd none
-  write_rests (HeadBegun begun) none past = absurd none
-  write_rests (Sync begun) none past = absurd none
-  write_rests (Revert begun) none past = absurd none
+  -- of an operation that stands with it
+  module _ (number ticket : ℕ) (answer : Option Reply) (stand : (operation : Operating) → numbered world.operations number ≡ Some operation → Stands world.scene number (record operation { past = told operation.past ticket answer })) where
+    told_by : (operation : Operating) → numbered world.operations number ≡ Some operation → (is_over : Bool)
+        → Some_world (λ after. MatchBool is_over (after ≡ idle world) (Proceeds world number operation (told operation.past ticket answer) after))
+    told_by operation is true = (idle world, refl)
+    told_by operation is false =
+        let past = told operation.past ticket answer in
+        proceeds world number operation past (standing_rests world.scene keeps.sound right number (record operation { past = past }) (stand operation is))
 
-  told_by : (number : ℕ) (operation : Operating) (past : List Step) → (operation.is_over ≡ true) ⊎ IsWrite operation.begun → (is_over : Bool) → operation.is_over ≡ is_over → Some_world (λ after. MatchBool is_over (after ≡ idle world) (Proceeds world number operation past after))
-  told_by number operation past may true is = (idle world, refl)
-  told_by number operation past (inl over) false is = absurd (cc)
-  told_by number operation past (inr write) false is = proceeds world number operation past (write_rests operation.begun write past)
-
-  tells : (number ticket : ℕ) (answer : Option Reply) (found : Option Operating) → TakesAny found → Some_world (IsTold found number ticket answer world)
-  tells number ticket answer None may = (idle world, refl)
-  tells number ticket answer (Some operation) may = told_by number operation (told operation.past ticket answer) may operation.is_over refl
+    tells : (found : Option Operating) → numbered world.operations number ≡ found → Some_world (IsTold found number ticket answer world)
+    tells None is = (idle world, refl)
+    tells (Some operation) is = told_by operation is operation.is_over
 
   -- ---- devices
 
@@ -98,25 +103,32 @@ module _ (world : World) (keeps : KeepsAll world.scene) where
   on_request does done message (Some (Request at operation sent)) is =
       on_scene (does operation sent) (done at operation sent (numbered-contains world.scene.mail message (Request at operation sent) is)) (is_up world.scene sent.device)
 
-  comes : (message : ℕ) (mail : Option Mail) → numbered world.scene.mail message ≡ mail → MayCome world mail → Some_world (Comes mail world)
-  comes message None is may = (idle world, refl)
-  comes message (Some (Answer at number sent reply)) is may = tells number sent.ticket (Some reply) (numbered world.operations number) may
-  comes message (Some (Request at operation sent)) is may =
-      on_scene (Handles world.scene operation sent) (handles world.scene sent operation keeps at (numbered-contains world.scene.mail message (Request at operation sent) is)) (is_up world.scene sent.device)
+  module _ (sound : IsSoundWorld cluster world) where
+    comes : (message : ℕ) (mail : Option Mail) → numbered world.scene.mail message ≡ mail → Some_world (Comes mail world)
+    comes message None is = (idle world, refl)
+    comes message (Some (Answer at number sent reply)) is =
+        tells number sent.ticket (Some reply)
+        (λ operation there. answered-stands world.scene number operation (sound.operations number operation there) keeps.sound at sent reply (numbered-contains world.scene.mail message (Answer at number sent reply) is))
+        (numbered world.operations number) refl
+    comes message (Some (Request at operation sent)) is =
+        on_scene (Handles world.scene operation sent) (handles world.scene sent operation keeps at (numbered-contains world.scene.mail message (Request at operation sent) is)) (is_up world.scene sent.device)
 
-  -- ---- events
+    -- ---- events
 
-  happens : (event : Event) → MayHappenTo world event → Some_world (Happens event world)
-  happens (Start job) may = starts job may
-  happens (Deliver message) may = comes message (numbered world.scene.mail message) refl may
-  happens (Crash message) may = on_request (λ operation sent. Crashes world.scene sent) (λ at operation sent request. crashes world.scene sent) message (numbered world.scene.mail message) refl
-  happens (Fault message) may = on_request (Fails world.scene) (λ at operation sent request. fails world.scene sent operation keeps at request) message (numbered world.scene.mail message) refl
-  happens (CrashMount device) may = on_scene (CrashesMounting world.scene device) (crashes_mounting world.scene device) (is_down world.scene device)
-  happens (Stop device) may = on_scene (λ scene. scene ≡ stopped device world.scene) (stopped device world.scene, refl) (is_up world.scene device)
-  happens (Restart device) may = on_scene (Restarts world.scene device) (restarts world.scene device) (is_down world.scene device)
-  happens (Lose device) may = on_scene (λ scene. scene ≡ lost device world.scene) (lost device world.scene, refl) (is_among (ids_of cluster) device)
-  happens (GiveUp number ticket) may = tells number ticket None (numbered world.operations number) may
-  happens (SetClock stamp) may = (record (idle world) { clock = stamp }, (may, refl))
+    happens : (event : Event) → MayHappenTo world event → Some_world (Happens event world)
+    happens (Start job) may = starts job may
+    happens (Deliver message) may = comes message (numbered world.scene.mail message) refl
+    happens (Crash message) may = on_request (λ operation sent. Crashes world.scene sent) (λ at operation sent request. crashes world.scene sent) message (numbered world.scene.mail message) refl
+    happens (Fault message) may = on_request (Fails world.scene) (λ at operation sent request. fails world.scene sent operation keeps at request) message (numbered world.scene.mail message) refl
+    happens (CrashMount device) may = on_scene (CrashesMounting world.scene device) (crashes_mounting world.scene device) (is_down world.scene device)
+    happens (Stop device) may = on_scene (λ scene. scene ≡ stopped device world.scene) (stopped device world.scene, refl) (is_up world.scene device)
+    happens (Restart device) may = on_scene (Restarts world.scene device) (restarts world.scene device) (is_down world.scene device)
+    happens (Lose device) may = on_scene (λ scene. scene ≡ lost device world.scene) (lost device world.scene, refl) (is_among (ids_of cluster) device)
+    happens (GiveUp number ticket) may =
+        tells number ticket None (λ operation there. given_up-stands world.scene number operation (sound.operations number operation there) ticket) (numbered world.operations number) refl
+    happens (SetClock stamp) may = (record (idle world) { clock = stamp }, (may, refl))
 
 pub goes_on : (cluster : ClusterModel) (events : List Event) (world : World) (event : Event) → IsRun cluster events world → MayHappenTo world event → (after : World) × Happens event world after
-goes_on cluster events world event run may = happens world (run_keeps_all cluster events world run) event may
+goes_on cluster events world event run may =
+    let sound = run-sound cluster events world run in
+    happens world (run_keeps_all cluster events world run) (run_right cluster events world run) (subst (λ (one : ClusterModel). IsSoundWorld one world) (sym sound.same_cluster) sound) event may

@@ -4,6 +4,7 @@ use Rattle.std.specs.Prelude.{if◌then◌else◌, slice_get}
 use Rattle.std.proofs.lemmas.Bool.{ltb-true}
 use Rattle.std.proofs.lemmas.List.{length-append}
 use Rattle.std.proofs.lemmas.Option.{slice_get_within}
+use Rattle.sw_message.specs.Learnt.{Booked, IsSoundBook}
 use Rattle.sw_message.specs.Transcript.{Hand, IsRun, Next, Over, Step, Wait}
 use Rattle.sw_message.specs.declared.sent.Sent.{Sent}
 use Rattle.sw_message.specs.declared.target.Target.{Target}
@@ -16,7 +17,9 @@ use Rattle.sw_get.proofs.Goings.{GoingSays}
 use Rattle.sw_get.proofs.Runs.{all_kept, says}
 use Rattle.sw_get.proofs.Turns.{ask_goes_on, begins, facts-asked, facts-fetched, fetch_goes_on, now}
 use Rattle.sw_core.specs.Operating.{Begun as AnyBegun, Get, Head, IsNext as IsAnyNext}
+use Rattle.sw_going.proofs.Brought.{AreStored}
 use Rattle.sw_going.proofs.Rests.{ComesToRest, StopsOrGoes, comes_to_rest}
+use Rattle.sw_going.proofs.Turns.{turns_of}
 
 module _ (begun : Begun) where
   abbrev count : ℕ
@@ -163,8 +166,11 @@ module _ (begun : Begun) where
           are_left = record { rounds = most_kept; asks = count; tries = k + lost facts; rounds_are = omega arith; asks_are = omega arith; tries_are = omega arith; sum = omega arith };
         })
 
-pub get_starts : (begun : Begun) → IsBegun begun → ComesToRest (Get begun) []
-get_starts begun valid = rests_from begun valid (Get begun) (λ past next is. is) [] [] tt tt
+-- ---- from every transcript
 
-pub head_starts : (begun : Begun) → IsBegun begun → ComesToRest (Head begun) []
-head_starts begun valid = rests_from begun valid (Head begun) (λ past next is. is) [] [] tt tt
+module _ (begun : Begun) (valid : IsBegun begun) (book : List Booked) (sound : IsSoundBook begun.cluster.policy book) (past : List Step) (run : IsRun (IsNext begun) past) (stored : AreStored begun.cluster book past) where
+  pub get_rests : ComesToRest (Get begun) past
+  get_rests = let turns = turns_of begun valid book sound past run stored in rests_from begun valid (Get begun) (λ past next is. is) past turns.0 turns.1 run
+
+  pub head_rests : ComesToRest (Head begun) past
+  head_rests = let turns = turns_of begun valid book sound past run stored in rests_from begun valid (Head begun) (λ past next is. is) past turns.0 turns.1 run

@@ -1,5 +1,12 @@
+pub mod Brought
 pub mod Events
+pub mod Further
 pub mod Gets
-pub mod Jobs
+pub mod Operations
+pub mod Puts
+pub mod Replies
 pub mod Rests
+pub mod Reverts
+pub mod Syncs
+pub mod Turns
 pub mod Writes
