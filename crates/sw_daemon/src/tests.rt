@@ -109,9 +109,13 @@ fn waits(op: &mut PassOp) -> Result<bool, Fail> {
     Ok(op.next()?.is_none())
 }
 
+fn hear(op: &mut PassOp, ticket: u64, reply: Reply) {
+    op.take(ticket, reply);
+}
+
 fn give(op: &mut PassOp, ticket: u64, reply: Option<Reply>) {
     match reply {
-        Some(reply) => op.take(ticket, reply),
+        Some(reply) => hear(op, ticket, reply),
         None => op.give_up(ticket),
     }
 }

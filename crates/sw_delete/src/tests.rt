@@ -49,9 +49,13 @@ fn waits(op: &mut DeleteOp) -> Result<bool, Fail> {
     Ok(next(op)?.is_none())
 }
 
+fn hear(op: &mut DeleteOp, ticket: u64, reply: Reply) {
+    op.take(ticket, reply);
+}
+
 fn answer(op: &mut DeleteOp, ticket: u64, says: Says) -> Result<(), Fail> {
     match says.reply()? {
-        Some(reply) => op.take(ticket, reply),
+        Some(reply) => hear(op, ticket, reply),
         None => op.give_up(ticket),
     }
     Ok(())

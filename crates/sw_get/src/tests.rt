@@ -108,9 +108,13 @@ fn waits(op: &mut GetOp) -> Result<bool, Fail> {
     Ok(next(op)?.is_none())
 }
 
+fn hear(op: &mut GetOp, ticket: u64, reply: Reply) {
+    op.take(ticket, reply);
+}
+
 fn give(op: &mut GetOp, ticket: u64, reply: Option<Reply>) {
     match reply {
-        Some(reply) => op.take(ticket, reply),
+        Some(reply) => hear(op, ticket, reply),
         None => op.give_up(ticket),
     }
 }

@@ -73,9 +73,13 @@ fn next(op: &mut PutOp) -> Result<Option<Sent>, Fail> {
     Ok(op.next()?)
 }
 
+fn hear(op: &mut PutOp, ticket: u64, reply: Reply) {
+    op.take(ticket, reply);
+}
+
 fn answer(op: &mut PutOp, ticket: u64, says: Says) -> Result<(), Fail> {
     match says.reply()? {
-        Some(reply) => op.take(ticket, reply),
+        Some(reply) => hear(op, ticket, reply),
         None => op.give_up(ticket),
     }
     Ok(())

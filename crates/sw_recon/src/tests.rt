@@ -128,9 +128,13 @@ fn waits(job: &mut RevertJob) -> Result<bool, Fail> {
     Ok(next(job)?.is_none())
 }
 
+fn hear(job: &mut RevertJob, ticket: u64, reply: Reply) {
+    job.take(ticket, reply);
+}
+
 fn give(job: &mut RevertJob, ticket: u64, reply: Option<Reply>) {
     match reply {
-        Some(reply) => job.take(ticket, reply),
+        Some(reply) => hear(job, ticket, reply),
         None => job.give_up(ticket),
     }
 }

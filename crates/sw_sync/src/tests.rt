@@ -158,9 +158,13 @@ fn waits(job: &mut SyncJob) -> Result<bool, Fail> {
     Ok(next(job)?.is_none())
 }
 
+fn hear(job: &mut SyncJob, ticket: u64, reply: Reply) {
+    job.take(ticket, reply);
+}
+
 fn give(job: &mut SyncJob, ticket: u64, reply: Option<Reply>) {
     match reply {
-        Some(reply) => job.take(ticket, reply),
+        Some(reply) => hear(job, ticket, reply),
         None => job.give_up(ticket),
     }
 }
