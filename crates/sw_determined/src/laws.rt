@@ -22,7 +22,7 @@ pub fn event_law()
     step_law();
 }
 
-/// The members of a ring's text say one cluster.
+/// The members of a ring's text say one cluster at most.
 pub fn cluster_law()
     ensures { (members : RingMembers) (one other : ClusterModel) → IsCluster members one → IsCluster members other → one ≡ other }
 {}

@@ -1,15 +1,38 @@
 -- Nodes whose disks are yet to be handed back to a shelf, one by one.
 use Rattle.std.proofs.Common.{◌≡◌, ℕ, ◌-◌, List, [], ◌∷◌, ◌++◌, drop, length, map, Option, None, Some, refl, sym, ap, subst, ◌∙◌, arith}
 use Rattle.std.proofs.lemmas.List.{append_assoc, append-nil}
+use Rattle.std.specs.Option.{option_to_list}
 use Rattle.sw_disk.specs.Runs.{Seen}
 use Rattle.sw_shelf.specs.Shelf.{after_back, with_one}
 use Rattle.sw_objsrv.specs.Node.{NodeModel}
-use Rattle.sw_direct.specs.Mounted.{disks_of, with_all, with_faults}
+use Rattle.sw_direct.specs.Mounted.{IsOfFirst, disks_of, with_faults}
+use Rattle.sw_shelf.specs.Shelf.{with_all}
 
 -- what loses its first item and stays the same is empty
 pub none_of : {X : Type 0} (items : List X) → items ≡ drop 1 items → items ≡ []
 none_of [] is = refl
 none_of (item ∷ items) is = let longer = ap length is in absurd (omega arith)
+
+-- what came back, and then more
+pub all_in_turn : {T : Type 0} (returned : Option (List T)) (first more : List T) → with_all (with_all returned first) more ≡ with_all returned (first ++ more)
+all_in_turn None first more = refl
+all_in_turn (Some items) first more = ap Some (append_assoc items first more)
+
+pub none_back : {T : Type 0} (returned : Option (List T)) → returned ≡ with_all returned []
+none_back None = refl
+none_back (Some items) = ap Some (sym (append-nil items))
+
+pub one_back : {T : Type 0} (returned : Option (List T)) (one : T) → with_one returned one ≡ with_all returned (one ∷ [])
+one_back None one = refl
+one_back (Some items) one = refl
+
+-- the disk of a device, if it came back
+abbrev pub one_of : {D : Type 0} → ℕ → Option D → List (ℕ × D)
+one_of {D} id failed = map (λ (disk : D). (id, disk)) (option_to_list failed)
+
+pub is_of_first : {D : Type 0} (id : ℕ) (others : List ℕ) (failed : Option D) → IsOfFirst (id ∷ others) (one_of id failed)
+is_of_first id others None = tt
+is_of_first id others (Some disk) = refl
 
 module _ {D : Type 0} (seen : D → Seen) where
   abbrev pub ids_in : List (NodeModel D) → List ℕ

@@ -14,7 +14,7 @@ use Rattle.sw_diskfile.proofs.Lists.{Contains-map}
 use Rattle.sw_shelf.specs.Shelf.{after_back}
 use Rattle.sw_message.specs.Message.{IsMember}
 use Rattle.sw_objsrv.specs.Node.{IsNode, NodeModel}
-use Rattle.sw_direct.specs.Mounted.{AreMounted, IsMounted, with_faults}
+use Rattle.sw_direct.specs.Mounted.{AreMounted, Handing, IsMounted, with_faults}
 use Rattle.sw_direct.proofs.HandingBack.{ids_in}
 
 -- one pair more
@@ -24,32 +24,32 @@ zip_more R [] (b ∷ ys) x y all holds = absurd all
 zip_more R (a ∷ xs) [] x y all holds = absurd all
 zip_more R (a ∷ xs) (b ∷ ys) x y all holds = (all.0, zip_more R xs ys x y all.1 holds)
 
-module _ {D : Type 0} (seen : D → Seen) (left_since : D → Past) (cluster : ClusterModel) where
+module _ {D S : Type 0} (seen : D → Seen) (left_since : D → Past) (hands : Handing S D) (cluster : ClusterModel) where
   pub record AreSoFar (devices : List Device) (nodes : List (NodeModel D)) : Type 0 where
-    pub mounted : AreMounted seen left_since cluster devices nodes
+    pub mounted : AreMounted seen left_since hands cluster devices nodes
     pub are : All (IsNode cluster seen) nodes
     pub faultless : All (λ (node : NodeModel D). (seen node.disk).faults ≡ 0) nodes
 
   pub none_yet : AreSoFar [] []
   none_yet = record { mounted = tt; are = All-nil (IsNode cluster seen); faultless = All-nil (λ (node : NodeModel D). (seen node.disk).faults ≡ 0) }
 
-  pub one_further : (devices : List Device) (nodes : List (NodeModel D)) (device : Device) (node : NodeModel D) → AreSoFar devices nodes → IsMounted seen left_since cluster device node → IsNode cluster seen node
+  pub one_further : (devices : List Device) (nodes : List (NodeModel D)) (device : Device) (node : NodeModel D) → AreSoFar devices nodes → IsMounted seen left_since hands cluster device node → IsNode cluster seen node
       → (seen node.disk).faults ≡ 0 → AreSoFar (devices ++ device ∷ []) (nodes ++ node ∷ [])
   one_further devices nodes device node are mounted is_node faultless = record {
-    mounted = zip_more (IsMounted seen left_since cluster) devices nodes device node are.mounted mounted;
+    mounted = zip_more (IsMounted seen left_since hands cluster) devices nodes device node are.mounted mounted;
     are = All-append (IsNode cluster seen) nodes (node ∷ []) are.are (All-cons (IsNode cluster seen) node [] is_node (All-nil (IsNode cluster seen)));
     faultless = let P = λ (one : NodeModel D). (seen one.disk).faults ≡ 0 in All-append P nodes (node ∷ []) are.faultless (All-cons P node [] faultless (All-nil P));
   }
 
   -- their ids are those of the devices
-  pub ids_are : (devices : List Device) (nodes : List (NodeModel D)) → AreMounted seen left_since cluster devices nodes → ids_in seen nodes ≡ device_ids devices
+  pub ids_are : (devices : List Device) (nodes : List (NodeModel D)) → AreMounted seen left_since hands cluster devices nodes → ids_in seen nodes ≡ device_ids devices
   ids_are [] [] are = refl
   ids_are [] (node ∷ nodes) are = absurd are
   ids_are (device ∷ devices) [] are = absurd are
   ids_are (device ∷ devices) (node ∷ nodes) are = rw are.0.device_is (ap (λ (ids : List ℕ). device.id ∷ ids) (ids_are devices nodes are.1))
 
-  pub as_many : (devices : List Device) (nodes : List (NodeModel D)) → AreMounted seen left_since cluster devices nodes → length nodes ≡ length devices
-  as_many devices nodes are = AllZip-long (IsMounted seen left_since cluster) devices nodes are
+  pub as_many : (devices : List Device) (nodes : List (NodeModel D)) → AreMounted seen left_since hands cluster devices nodes → length nodes ≡ length devices
+  as_many devices nodes are = AllZip-long (IsMounted seen left_since hands cluster) devices nodes are
 
   -- no fault is counted when they come back
   pub no_fault : (count : ℕ) (nodes : List (NodeModel D)) → All (λ (node : NodeModel D). (seen node.disk).faults ≡ 0) nodes → with_faults seen count nodes ≡ count

@@ -32,9 +32,9 @@ pub record AreNodes {D : Type 0} (seen : D → Seen) (cluster : ClusterModel) (n
 -- ---- calls
 
 -- the node says that memory was wanted
-abbrev pub is_want : Reply → Bool
-is_want NoMemory = true
-is_want other = false
+abbrev pub wants_memory : Reply → Bool
+wants_memory NoMemory = true
+wants_memory other = false
 
 -- One of these nodes handled a message, and the others are as they were.
 pub record IsHandledAt {D : Type 0} (seen : D → Seen) (left_since : D → Past) (cluster : ClusterModel) (place : ℕ) (msg : Msg) (reply : Reply) (before after : List (NodeModel D)) : Type 0 where
@@ -50,7 +50,7 @@ pub record Handles {D C : Type 0} (seen : D → Seen) (left_since : D → Past) 
   pub place : ℕ
   pub once : IsHandledAt seen left_since before.cluster place msg reply before.nodes after.nodes
   pub mine : once.old.device ≡ device
-  pub after_is : after ≡ record before { nodes = after.nodes; wants = before.wants || is_want reply }
+  pub after_is : after ≡ record before { nodes = after.nodes; wants = before.wants || wants_memory reply }
 
 -- no message is lost
 abbrev pub Calls : {D C : Type 0} → (D → Seen) → (D → Past) → DirectModel D C → (device : ℕ) → Msg → Option Reply → DirectModel D C → Type 0

@@ -6,7 +6,7 @@ ghost use Rattle.sw_types.specs.Stamp.{greatest_stamp};
 ghost use Rattle.sw_message.specs.Message.{IsMember, IsPlaceOf, place_in};
 ghost use Rattle.sw_objsrv.specs.Node.{IsNode, NodeModel};
 ghost use Rattle.sw_scene.specs.Moves.{next_stamp};
-ghost use Rattle.sw_direct.specs.Direct.{AreNodes, Calls, DirectModel, Draws, IsHandledAt, is_want};
+ghost use Rattle.sw_direct.specs.Direct.{AreNodes, Calls, DirectModel, Draws, IsHandledAt, wants_memory};
 
 use std::alloc::Global;
 use std::marker::Model;
@@ -106,7 +106,7 @@ impl<'a, D: Disk, C: Clock> Link for DirectLink<'a, D, C> {
     fn call(&mut self, device: u16, msg: &Msg) -> Option<Reply> {
         let place = self.place_of(device).unwrap();
         let reply = handle_at(self.alloc, self.cluster, &mut self.nodes, place, msg);
-        self.wants = self.wants || is_want(&reply);
+        self.wants = self.wants || wants_memory(&reply);
         Some(reply)
     }
 }
@@ -167,8 +167,8 @@ fn handle_at<D: Disk>(
 }
 
 // Whether a node says that memory was wanted.
-fn is_want(reply: &Reply) -> bool
-    ensures { result ≡ is_want reply.now }
+fn wants_memory(reply: &Reply) -> bool
+    ensures { result ≡ wants_memory reply.now }
 {
     matches!(reply, Reply::NoMemory)
 }

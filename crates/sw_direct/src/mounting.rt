@@ -1,14 +1,15 @@
 //! Disks of a shelf, mounted as the nodes of a cluster, and handed back.
 
-ghost use Rattle.std.specs.Prelude.{◌≡◌, ◌++◌, ◌+◌, List, ℕ, IfErr, IfOk, IsErrOf, OnErr, length, map};
+ghost use Rattle.std.specs.Prelude.{◌≡◌, ◌++◌, ◌+◌, List, ℕ, Option, IfErr, IfOk, IsErrOf, OnErr, length, map, option_to_list};
 ghost use Rattle.sw_words.specs.Counts.{one_more};
 ghost use Rattle.sw_message.specs.Message.{IsMember};
 ghost use Rattle.sw_objsrv.specs.Node.{NodeModel, IsNode};
 ghost use Rattle.sw_ring.specs.Cluster.{ids_of};
 ghost use Rattle.sw_ring.specs.declared.device.Device.{Device as ADevice};
+ghost use Rattle.sw_shelf.specs.Shelf.{with_all};
 ghost use Rattle.sw_shelf.specs.declared.fault.ShelfFault.TheVariants.{Failed, NoMemory as WantOfMemory};
 ghost use Rattle.sw_direct.specs.Direct.{AreNodes};
-ghost use Rattle.sw_direct.specs.Mounted.{AreMounted, IsMounted, disks_of, with_all, with_faults};
+ghost use Rattle.sw_direct.specs.Mounted.{AreMounted, CameBack, IsMounted, disks_of, with_faults};
 
 use std::alloc::Global;
 use std::collections::VecDeque;
@@ -23,11 +24,13 @@ pub fn mount_all<F: Shelf>(
     shelf: &mut F,
 ) -> Result<Vec<Node<F::Disk>>, ShelfFault>
     requires { F.out shelf.old ≡ 0 }
-    ensures mounted { IfOk result (λ nodes. AreMounted F.Disk.seen F.Disk.left_since cluster.now cluster.now.devices nodes.items) }
+    ensures mounted { IfOk result (λ nodes. AreMounted F.Disk.seen F.Disk.left_since F.hands cluster.now cluster.now.devices nodes.items) }
     ensures nodes { IfOk result (λ nodes. AreNodes F.Disk.seen cluster.now nodes.items) }
     ensures out { IfOk result (λ nodes. F.out shelf.new ≡ length cluster.now.devices) }
     ensures returned { IfOk result (λ nodes. F.returned shelf.new ≡ F.returned shelf.old) }
+    ensures quiet { IfOk result (λ nodes. F.faults shelf.new ≡ F.faults shelf.old) }
     ensures back { OnErr result (F.out shelf.new ≡ 0) }
+    ensures came_back { OnErr result (CameBack (ids_of cluster.now) (F.returned shelf.old) (F.returned shelf.new)) }
     ensures failed { IsErrOf result Failed → F.faults shelf.new ≡ one_more (F.faults shelf.old) }
     ensures no_memory { IsErrOf result WantOfMemory → F.faults shelf.new ≡ F.faults shelf.old }
 {
@@ -54,7 +57,7 @@ fn mount<F: Shelf>(
     device: &Device,
 ) -> Result<Node<F::Disk>, ShelfFault>
     requires { IsMember cluster.now device.now.id }
-    ensures mounted { IfOk result (λ node. IsMounted F.Disk.seen F.Disk.left_since cluster.now device.now node) }
+    ensures mounted { IfOk result (λ node. IsMounted F.Disk.seen F.Disk.left_since F.hands cluster.now device.now node) }
     ensures node { IfOk result (λ node. IsNode cluster.now F.Disk.seen node) }
     ensures faultless { IfOk result (λ node. (F.Disk.seen node.disk).faults ≡ 0) }
     ensures out { IfOk result (λ node. F.out shelf.new ≡ one_more (F.out shelf.old)) }
@@ -62,6 +65,7 @@ fn mount<F: Shelf>(
     ensures quiet { IfOk result (λ node. F.faults shelf.new ≡ F.faults shelf.old) }
     ensures failed { IsErrOf result Failed → F.faults shelf.new ≡ one_more (F.faults shelf.old) }
     ensures no_memory { IsErrOf result WantOfMemory → F.faults shelf.new ≡ F.faults shelf.old }
+    ensures came_back { OnErr result ((failed : Option F.Disk) × (F.returned shelf.new ≡ with_all (F.returned shelf.old) (map (λ disk. (device.now.id, disk)) (option_to_list failed)))) }
     ensures back { OnErr result (F.out shelf.old + 1 ≡ one_more (F.out shelf.old) → F.out shelf.new ≡ F.out shelf.old) }
 {
     let disk = shelf.disk(alloc, device.id, device.capacity)?;

@@ -60,6 +60,16 @@ fn finds(
     }
 }
 
+// Whether the disks of these devices are back, in this order.
+fn are_back(shelf: &MemShelf, devices: &[u16]) -> bool {
+    let back = shelf.returned();
+    back.len() == devices.len()
+        && back
+            .iter()
+            .zip(devices)
+            .all(|(one, device)| one.0 == *device)
+}
+
 #[test]
 fn puts_and_gets(rt: HostRuntime) -> Result<(), Fail> {
     let alloc = rt.alloc();
@@ -73,7 +83,7 @@ fn puts_and_gets(rt: HostRuntime) -> Result<(), Fail> {
     assert!(rt; finds(alloc, &cluster, &mut link, 8, b"abd")?);
     assert!(rt; !link.wants());
     hand_back(&cluster, &mut shelf, link.into_nodes());
-    assert_eq!(rt; shelf.returned().len(), 4);
+    assert!(rt; are_back(&shelf, &[0, 1, 2, 3]));
     Ok(())
 }
 
@@ -86,6 +96,19 @@ fn gives_up_where_a_disk_is_refused(rt: HostRuntime) -> Result<(), Fail> {
     shelf.refuse(2);
     let refused = mount_all(alloc, &cluster, &mut shelf).err();
     assert_eq!(rt; refused, Some(ShelfFault::Failed));
-    assert_eq!(rt; shelf.returned().len(), 2);
+    assert!(rt; are_back(&shelf, &[0, 1]));
+    Ok(())
+}
+
+// So is one that can't be mounted.
+#[test]
+fn gives_up_where_a_disk_fails(rt: HostRuntime) -> Result<(), Fail> {
+    let alloc = rt.alloc();
+    let cluster = Cluster::read(alloc, built_in())?;
+    let mut shelf = MemShelf::new(alloc);
+    shelf.fail_at(1, vec![in alloc; 1]?);
+    let refused = mount_all(alloc, &cluster, &mut shelf).err();
+    assert_eq!(rt; refused, Some(ShelfFault::Failed));
+    assert!(rt; are_back(&shelf, &[1, 0]));
     Ok(())
 }

@@ -132,3 +132,13 @@ pub goes_on : (cluster : ClusterModel) (events : List Event) (world : World) (ev
 goes_on cluster events world event run may =
     let sound = run-sound cluster events world run in
     happens world (run_keeps_all cluster events world run) (run_right cluster events world run) (subst (λ (one : ClusterModel). IsSoundWorld one world) (sym sound.same_cluster) sound) event may
+
+-- no other event happens
+pub only : (world after : World) (event : Event) → Happens event world after → MayHappenTo world event
+only world after (Start (Put name object)) is = (is.0, is.1)
+only world after (Start (Delete name)) is = is.0
+only world after (Start (Get name)) is = tt
+only world after (Start (Head name)) is = tt
+only world after (Start (Recon device name)) is = is.0
+only world after (SetClock stamp) is = is.0
+only world after other is = tt

@@ -32,7 +32,7 @@ const TEMPORARY: &str = "tmp";
 pub struct HostDisk<R> {
     host: R,
     base: HostPath,
-    capacity: u64,
+    pub(crate) capacity: u64,
     used: u64,
     pub(crate) faults: u64,
     temporary: Option<Temporary>,
@@ -49,7 +49,8 @@ impl<R: Host> HostDisk<R> {
     /// A disk over a folder that is there. A temporary file that a crash left goes, the files are counted, and the folders
     /// above them are made stable.
     pub(crate) fn open(host: R, base: HostPath, capacity: u64) -> Result<HostDisk<R>, HostFault>
-        ensures { IfOk result (λ disk. disk.faults ≡ 0) }
+        ensures faults { IfOk result (λ disk. disk.faults ≡ 0) }
+        ensures capacity { IfOk result (λ disk. disk.capacity ≡ capacity) }
     {
         clear_file(&host, &below(&base, TEMPORARY)?)?;
         let used = used_below(&host, &base)?;

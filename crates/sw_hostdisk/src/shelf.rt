@@ -44,6 +44,7 @@ impl<R: Host> HostShelf<R> {
     // The disk of a device, whose folder is made where it is missing.
     fn open(&mut self, alloc: Global, device: u16, capacity: u64) -> Result<HostDisk<R>, HostFault>
         ensures new { IfOk result (λ disk. disk.faults ≡ 0) }
+        ensures capacity { IfOk result (λ disk. disk.capacity ≡ capacity) }
         ensures faults { self.new.faults ≡ self.old.faults }
         ensures out { self.new.out ≡ self.old.out }
     {
@@ -78,9 +79,11 @@ fn locked<R: Host>(host: &R, data: &HostPath) -> Result<File, HostFault> {
 }
 
 impl<R: Host + Send> Shelf for HostShelf<R> {
-    ghost use Rattle.std.specs.Prelude.{None};
+    ghost use Rattle.std.specs.Prelude.{◌≡◌, None, IfOk};
 
     type Disk = HostDisk<R>;
+
+    ghost hands = { λ before device capacity result after. IfOk result (λ disk. disk.capacity ≡ capacity) };
 
     ghost faults = { λ shelf. shelf.faults };
 

@@ -1,6 +1,7 @@
 //! A shelf of disks in memory.
 
 ghost use Rattle.std.specs.Prelude.{◌≡◌, ◌++◌, ◌∷◌, ◌+◌, ◌≤◌, ◌<◌, [], None, Some, IfOk, OnErr, OnOk, length, vec_capacity, vec_len};
+ghost use Rattle.sw_memshelf.specs.Memory.{failing_of, without};
 
 use std::alloc::Global;
 use std::marker::Model;
@@ -12,7 +13,7 @@ use sw_types::NoMemory;
 #[derive(Drop)]
 pub struct MemShelf {
     refusing: Option<u16>,
-    failing: Vec<(u16, Vec<u64>)>,
+    failing: Option<(u16, Vec<u64>)>,
     refused: u64,
     out: u64,
     // There is room for those that are out.
@@ -20,12 +21,12 @@ pub struct MemShelf {
 }
 
 impl Model for MemShelf {
-    ghost use Rattle.std.specs.Prelude.{◌+◌, ◌≤◌, map, vec_capacity, vec_len};
+    ghost use Rattle.std.specs.Prelude.{◌+◌, ◌≤◌, option_map, vec_capacity, vec_len};
     ghost use Rattle.sw_memshelf.specs.Memory.{ShelfModel};
 
     ghost Value = { ShelfModel };
 
-    ghost view = { λ s. record { refusing = s.refusing; failing = map (λ one. (one.0, one.1.items)) s.failing.items; refused = s.refused; out = s.out; back = s.back.items } };
+    ghost view = { λ s. record { refusing = s.refusing; failing = option_map (λ one. (one.0, one.1.items)) s.failing; refused = s.refused; out = s.out; back = s.back.items } };
 
     ghost invariant = { λ s. vec_len s.back + s.out ≤ vec_capacity s.back };
 }
@@ -33,11 +34,11 @@ impl Model for MemShelf {
 impl MemShelf {
     /// A shelf none of whose disks fails.
     pub fn new(alloc: Global) -> MemShelf
-        ensures { result ≡ record { refusing = None; failing = []; refused = 0; out = 0; back = [] } }
+        ensures { result ≡ record { refusing = None; failing = None; refused = 0; out = 0; back = [] } }
     {
         MemShelf {
             refusing: None,
-            failing: Vec::new(alloc),
+            failing: None,
             refused: 0,
             out: 0,
             back: Vec::new(alloc),
@@ -51,12 +52,11 @@ impl MemShelf {
         self.refusing = Some(device);
     }
 
-    /// The device calls of these numbers, counted from 1, fail at the disk of this device.
-    pub fn fail_at(&mut self, device: u16, calls: Vec<u64>) -> Result<(), NoMemory>
-        ensures ok { OnOk result (self.new ≡ record self.old { failing = self.old.failing ++ (device, calls.items) ∷ [] }) }
-        ensures err { OnErr result (self.new ≡ self.old) }
+    /// The device calls of these numbers, counted from 1, fail at the next disk of this device, and of no other.
+    pub fn fail_at(&mut self, device: u16, calls: Vec<u64>)
+        ensures { self.new ≡ record self.old { failing = Some (device, calls.items) } }
     {
-        Ok(self.failing.push((device, calls))?)
+        self.failing = Some((device, calls));
     }
 
     /// The disks that are back, each with its device.
@@ -68,11 +68,15 @@ impl MemShelf {
 
     // Takes the list of the calls that fail at a device's disk.
     fn take_failing(&mut self, alloc: Global, device: u16) -> Vec<u64>
-        ensures { self.new ≡ record self.old { failing = self.new.failing } }
+        ensures calls { result.items ≡ failing_of self.old.failing device }
+        ensures left { self.new ≡ record self.old { failing = without self.old.failing device } }
     {
-        match self.failing.iter().position(|one| one.0 == device) {
-            Some(place) => self.failing.remove(place).1,
-            None => Vec::new(alloc),
+        match self.failing.take() {
+            Some((other, calls)) if other == device => calls,
+            others => {
+                self.failing = others;
+                Vec::new(alloc)
+            }
         }
     }
 
@@ -90,9 +94,11 @@ impl MemShelf {
 }
 
 impl Shelf for MemShelf {
-    ghost use Rattle.sw_memshelf.specs.Memory.{faults_of};
+    ghost use Rattle.sw_memshelf.specs.Memory.{Hands, faults_of};
 
     type Disk = MemDisk;
+
+    ghost hands = { Hands };
 
     ghost faults = { faults_of };
 

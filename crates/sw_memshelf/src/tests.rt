@@ -9,7 +9,7 @@ use sw_shelf::{Shelf, ShelfFault};
 fn gives_and_takes_disks(rt: HostRuntime) -> Result<(), Fail> {
     let alloc = rt.alloc();
     let mut shelf = MemShelf::new(alloc);
-    shelf.fail_at(3, vec![in alloc; 1]?)?;
+    shelf.fail_at(3, vec![in alloc; 1]?);
     shelf.refuse(2);
     let mut first = shelf.disk(alloc, 3, 9)?;
     let second = shelf.disk(alloc, 4, 9)?;

@@ -20,7 +20,12 @@ pub record IsNew (size : ℕ) (seen : Seen) : Type 0 where
 abbrev pub after_back : ℕ → ℕ → ℕ
 after_back disk count = if disk == 0 then count else one_more count
 
--- a list with one more at its end, where the list is told
+-- a list with more at its end, where the list is told
+abbrev pub with_all : {T : Type 0} → Option (List T) → List T → Option (List T)
+with_all None more = None
+with_all (Some items) more = Some (items ++ more)
+
+-- with one more
 abbrev pub with_one : {T : Type 0} → Option (List T) → T → Option (List T)
 with_one None item = None
 with_one (Some items) item = Some (items ++ item ∷ [])

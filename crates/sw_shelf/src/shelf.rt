@@ -1,8 +1,9 @@
 //! Where disks come from and where they go back.
 
-ghost use Rattle.std.specs.Prelude.{◌≡◌, ℕ, ◌-◌, ◌<◌, List, Option, IfOk, OnErr, OnOk, IsErrOf};
+ghost use Rattle.std.specs.Prelude.{◌≡◌, ℕ, ◌-◌, ◌<◌, List, Option, Result, IfOk, OnErr, OnOk, IsErrOf};
 ghost use Rattle.sw_words.specs.Counts.{one_more};
 ghost use Rattle.sw_shelf.specs.Shelf.{IsNew, after_back, with_one};
+ghost use Rattle.sw_shelf.specs.declared.fault.ShelfFault.{ShelfFault as AFault};
 
 use crate::ShelfFault;
 use std::alloc::Global;
@@ -12,6 +13,9 @@ use sw_disk::Disk;
 pub trait Shelf {
     /// A disk of the shelf.
     type Disk: Disk + Send + Drop;
+
+    /// What a request for a device's disk of so many bytes may answer, and leave.
+    ghost hands: { Self → ℕ → ℕ → Result Self.Disk AFault → Self → Type 0 };
 
     /// How often the shelf has failed: each disk that it could not hand out, and each that came back after a failure.
     ghost faults: { Self → ℕ };
@@ -24,6 +28,7 @@ pub trait Shelf {
 
     /// A disk for a device, of so many bytes. Where it tells what it holds, it holds nothing.
     fn disk(&mut self, alloc: Global, device: u16, capacity: u64) -> Result<Self::Disk, ShelfFault>
+        ensures hands { hands self.old device capacity result self.new }
         ensures new { IfOk result (λ disk. IsNew capacity (Self.Disk.seen disk)) }
         ensures out { OnOk result (out self.new ≡ one_more (out self.old)) }
         ensures kept { OnErr result (out self.new ≡ out self.old) }

@@ -33,7 +33,7 @@ impl<'a> Inner<'a> {
         Ok(self.told_since(count, None, ends)?)
     }
 
-    /// Delivers the least message that waits, until none does. The next time none of those that there are is looked at again.
+    /// Delivers the least message that waits, until none does. All that there are count as delivered then, so that the next time may begin behind them.
     pub(crate) fn deliver_all(&mut self) -> Result<Told, NoMemory>
         requires { Stands self.old }
         ensures does { (before : Scripted) → StandsFor self.old before → IfOk result (λ told. DoesIt event.All before told self.new) }

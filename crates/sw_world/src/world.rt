@@ -73,7 +73,7 @@ impl<'a> World<'a> {
     pub fn step(&mut self, event: &Event) -> Result<Told, StepFault>
         ensures does { (before : Scripted) → StandsFor self.old before → IfOk result (λ told. DoesIt event.now before told self.new) }
         ensures faults { (before : Scripted) → StandsFor self.old before → IfErr result (λ fault. FaultsBy event.now before fault self.old self.new) }
-        // Where each message was delivered, none of those that there are is looked at again.
+        // Once each message was delivered, all that there are count as such, so that the next time may begin behind them.
         ensures behind { event.now ≡ All → OnOk result (self.new.first ≡ length self.new.letters) }
         ensures wants { IsErrOf result StepFault.NoMemory → self.new.is_wanting ≡ true }
         ensures wanted { self.old.is_wanting ≡ true → IsErrOf result StepFault.NoMemory × (self.new ≡ self.old) }

@@ -1,4 +1,4 @@
--- A command and an input give one status and one text, unless memory is wanted.
+-- A command and an input give one status and one text at most, unless memory is wanted.
 use Rattle.std.proofs.Common.{◌≡◌, ◌≢◌, ℕ, nat_lt, length, Bool, true, false, List, Option, None, Some, [], Result, Ok, Err, sym, ap, subst, ◌∙◌}
 use Rattle.sw_ring.specs.Cluster.{ClusterModel, IsCluster, KeepsRules}
 use Rattle.sw_ring.specs.Members.{RingMembers}

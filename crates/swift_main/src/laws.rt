@@ -9,7 +9,7 @@ ghost use Rattle.swift_main.specs.declared.status.Status.TheVariants.{NoMemory};
 use sw_determined::cluster_law;
 use sw_play::text_law;
 
-/// A command and an input give one status and one text, unless memory is wanted.
+/// A command and an input give one status and one text at most, unless memory is wanted.
 pub fn answer_law()
     ensures { (command : Option ACommand) (input : List ℕ) (one other : AStatus) (told others : List ℕ) → Gives command input one told → Gives command input other others →
         one ≢ NoMemory → other ≢ NoMemory → (one ≡ other) × (told ≡ others) }

@@ -1,4 +1,4 @@
-use Rattle.std.proofs.Common.{◌≡◌, ◌∙◌, [], List, ap, length, sym}
+use Rattle.std.proofs.Common.{◌∙◌, [], ap, length, sym}
 use Rattle.std.proofs.lemmas.List.{append-nil, length-map}
 use Rattle.sw_objsrv.specs.Node.{NodeModel}
 use Rattle.sw_ring.specs.declared.device.Device.{Device}

@@ -4,7 +4,8 @@ use Rattle.std.proofs.lemmas.List.{drop_more}
 use Rattle.sw_objsrv.specs.Node.{NodeModel}
 use Rattle.sw_ring.specs.Rules.{device_ids}
 use Rattle.sw_ring.specs.declared.device.Device.{Device}
-use Rattle.sw_direct.specs.Mounted.{disks_of, with_all, with_faults}
+use Rattle.sw_direct.specs.Mounted.{disks_of, with_faults}
+use Rattle.sw_shelf.specs.Shelf.{with_all}
 use Rattle.sw_direct.proofs.HandingBack.{AreLeft, hands_one, no_device, none_left, none_of}
 use Rattle.sw_direct.proofs.mounting.hand_back_first.Given.{Over}
 use Rattle.sw_direct.proofs.mounting.hand_back_first.Goals as goal

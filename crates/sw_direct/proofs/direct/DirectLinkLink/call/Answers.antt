@@ -3,7 +3,7 @@ use Rattle.std.specs.List.{slice_get}
 use Rattle.std.specs.Vec.{with_items}
 use Rattle.std.proofs.lemmas.List.{with_items_is}
 use Rattle.sw_objsrv.specs.Node.{NodeModel}
-use Rattle.sw_direct.specs.Direct.{AreNodes, DirectModel, Handles, IsHandledAt, is_want}
+use Rattle.sw_direct.specs.Direct.{AreNodes, DirectModel, Handles, IsHandledAt, wants_memory}
 use Rattle.sw_direct.proofs.Changing.{are_after}
 use Rattle.sw_direct.proofs.direct.DirectLinkLink.call.Goals as goal
 use Rattle.sw_direct.proofs.direct.DirectLinkLink.call.Goals.{else-self, then-self}
@@ -22,9 +22,9 @@ returns-clause-calls g c =
     let there = subst (λ (place : Option ℕ). IfSome place (λ at. (node : NodeModel g.row.D.Denot) × (slice_get c.args.self.now.nodes at ≡ Some node) × (node.device ≡ c.args.device))) c.unwrap-place.ensures c.place_of.ensures.place in
     let at : slice_get c.self.inside.nodes.items c.unwrap-place.result ≡ Some there.0 = ap (λ (it : DirectModel g.row.D.Denot g.row.C.Denot). slice_get it.nodes c.unwrap-place.result) c.self.view_is ∙ there.1 in
     let same : once.old ≡ there.0 = let first = once.at in cc in
-    let wants : c.if-self.self ≡ (c.self.inside.wants || is_want c.handle_at-reply.result) = elim c.if-self.branch [
-      | then-self w ↦ w.self-is ∙ w.if-self.true ∙ ap (λ (b : Bool). b || is_want c.handle_at-reply.result) (sym w.if-self.true)
-      | else-self w ↦ w.self-is ∙ w.is_want-self-inside.ensures ∙ ap (λ (b : Bool). b || is_want c.handle_at-reply.result) (sym w.if-self.false)
+    let wants : c.if-self.self ≡ (c.self.inside.wants || wants_memory c.handle_at-reply.result) = elim c.if-self.branch [
+      | then-self w ↦ w.self-is ∙ w.if-self.true ∙ ap (λ (b : Bool). b || wants_memory c.handle_at-reply.result) (sym w.if-self.true)
+      | else-self w ↦ w.self-is ∙ w.wants_memory-self-inside.ensures ∙ ap (λ (b : Bool). b || wants_memory c.handle_at-reply.result) (sym w.if-self.false)
     ] in
     subst (λ (before : DirectModel g.row.D.Denot g.row.C.Denot). Handles g.D.Disk.seen g.D.Disk.left_since before c.args.device c.args.msg.now c.handle_at-reply.result (record all { nodes = (with_items c.self.inside.nodes c.handle_at-reply.new.nodes).items; wants = c.if-self.self })) c.self.view_is
     (subst (λ (nodes : List (NodeModel g.row.D.Denot)). Handles g.D.Disk.seen g.D.Disk.left_since all c.args.device c.args.msg.now c.handle_at-reply.result (record all { nodes = nodes; wants = c.if-self.self })) (sym items)
