@@ -1,6 +1,7 @@
 //! Puts and a get over nodes on disks of a shelf in memory, by a clock that stands.
 
-ghost use Rattle.std.specs.Prelude.{◌≡◌};
+ghost use Rattle.std.specs.Prelude.{◌≡◌, Some};
+ghost use Rattle.sw_ring.specs.Cluster.{ClusterModel};
 
 use crate::{DirectLink, hand_back, mount_all};
 use std::alloc::Global;
@@ -8,8 +9,8 @@ use std::test::Fail;
 use sw_front::{get, put};
 use sw_get::GetEnd;
 use sw_io::MemClock;
-use sw_memdisk::MemDisk;
 use sw_memshelf::MemShelf;
+use sw_message::{Draw, Link};
 use sw_put::PutEnd;
 use sw_ring::{Cluster, built_in};
 use sw_shelf::ShelfFault;
@@ -19,45 +20,56 @@ fn stamp(units: u64) -> Result<Stamp, Fail> {
     Ok(Stamp::make(units).ok_or("too great")?)
 }
 
+// The stamp of a put that was created with each commit.
+fn stamp_of(end: &PutEnd) -> Option<u64> {
+    match end {
+        PutEnd::Created { stamp, commits: 3 } => Some(stamp.units()),
+        _ => None,
+    }
+}
+
+fn is_found(end: &GetEnd, units: u64, body: &[u8]) -> bool {
+    match end {
+        GetEnd::Found { stamp, object, .. } => {
+            stamp.units() == units && object.body().as_slice() == body
+        }
+        _ => false,
+    }
+}
+
 // A put of this body as a/c/o over the link: its stamp, where it is created.
-fn created(
+fn created<L: Draw>(
     alloc: Global,
     cluster: &Cluster,
-    link: &mut DirectLink<'_, MemDisk, MemClock>,
+    link: &mut L,
     body: &[u8],
 ) -> Result<u64, Fail>
-    requires { link.old.cluster ≡ cluster.now }
-    ensures { link.new.cluster ≡ link.old.cluster }
+    requires { (of : ClusterModel) → L.cluster link.old ≡ Some of → cluster.now ≡ of }
+    ensures { L.cluster link.new ≡ L.cluster link.old }
 {
     let name = Name::make(alloc, b"a", b"c", b"o")?;
     let head = Head::make(alloc, b"text/plain", &[])?;
     let object = Object::make(head, Bytes::from_slice(alloc, body)?)
         .ok()
         .ok_or("too long")?;
-    match put(alloc, cluster, link, &name, &object)? {
-        PutEnd::Created { stamp, commits: 3 } => Ok(stamp.units()),
-        _ => Err("not created".into()),
-    }
+    let end = put(alloc, cluster, link, &name, &object)?;
+    Ok(stamp_of(&end).ok_or("not created")?)
 }
 
 // Whether a get of a/c/o finds this body at this stamp.
-fn finds(
+fn finds<L: Draw>(
     alloc: Global,
     cluster: &Cluster,
-    link: &mut DirectLink<'_, MemDisk, MemClock>,
+    link: &mut L,
     units: u64,
     body: &[u8],
 ) -> Result<bool, Fail>
-    requires { link.old.cluster ≡ cluster.now }
-    ensures { link.new.cluster ≡ link.old.cluster }
+    requires { (of : ClusterModel) → L.cluster link.old ≡ Some of → cluster.now ≡ of }
+    ensures { L.cluster link.new ≡ L.cluster link.old }
 {
     let name = Name::make(alloc, b"a", b"c", b"o")?;
-    match get(alloc, cluster, link, &name)? {
-        GetEnd::Found { stamp, object, .. } => {
-            Ok(stamp.units() == units && object.body().as_slice() == body)
-        }
-        _ => Ok(false),
-    }
+    let end = get(alloc, cluster, link, &name)?;
+    Ok(is_found(&end, units, body))
 }
 
 // Whether the disks of these devices are back, in this order.
