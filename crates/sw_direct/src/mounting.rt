@@ -1,11 +1,10 @@
 //! Disks of a shelf, mounted as the nodes of a cluster, and handed back.
 
-ghost use Rattle.std.specs.Prelude.{◌≡◌, ◌++◌, ◌+◌, List, ℕ, Option, IfErr, IfOk, IsErrOf, OnErr, length, map, option_to_list};
+ghost use Rattle.std.specs.Prelude.{◌≡◌, ◌++◌, ◌+◌, List, ℕ, Option, IfOk, IsErrOf, OnErr, length, map, option_to_list};
 ghost use Rattle.sw_words.specs.Counts.{one_more};
 ghost use Rattle.sw_message.specs.Message.{IsMember};
 ghost use Rattle.sw_objsrv.specs.Node.{NodeModel, IsNode};
 ghost use Rattle.sw_ring.specs.Cluster.{ids_of};
-ghost use Rattle.sw_ring.specs.declared.device.Device.{Device as ADevice};
 ghost use Rattle.sw_shelf.specs.Shelf.{with_all};
 ghost use Rattle.sw_shelf.specs.declared.fault.ShelfFault.TheVariants.{Failed, NoMemory as WantOfMemory};
 ghost use Rattle.sw_direct.specs.Direct.{AreNodes};

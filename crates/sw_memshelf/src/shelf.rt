@@ -1,6 +1,6 @@
 //! A shelf of disks in memory.
 
-ghost use Rattle.std.specs.Prelude.{◌≡◌, ◌++◌, ◌∷◌, ◌+◌, ◌≤◌, ◌<◌, [], None, Some, IfOk, OnErr, OnOk, length, vec_capacity, vec_len};
+ghost use Rattle.std.specs.Prelude.{◌≡◌, ◌+◌, ◌≤◌, ◌<◌, [], None, Some, OnErr, OnOk, vec_capacity, vec_len};
 ghost use Rattle.sw_memshelf.specs.Memory.{failing_of, without};
 
 use std::alloc::Global;
