@@ -1,0 +1,4 @@
+mod Apps
+mod Faults
+mod Names
+mod Numbers
