@@ -50,6 +50,7 @@ pub fn read_body<N: Conn>(
     carry: &mut Carry,
     framing: Framing,
 ) -> BodyNext
+    requires not_closed { N.closed conn.old ≡ false }
     ensures reads { ReadsBody framing (N.remaining conn.old) (N.remaining conn.new) carry.old carry.new result }
     ensures written { N.written conn.new ≡ N.written conn.old }
     ensures closed { N.closed conn.new ≡ N.closed conn.old }
@@ -79,6 +80,7 @@ fn read_sized<N: Conn>(
     carry: &mut Carry,
     size: u64,
 ) -> Result<BodyNext, ReadError>
+    requires not_closed { N.closed conn.old ≡ false }
     ensures reads { ReadsBody (Framing.Length size) (N.remaining conn.old) (N.remaining conn.new) carry.old carry.new (next_of result) }
     ensures written { N.written conn.new ≡ N.written conn.old }
     ensures closed { N.closed conn.new ≡ N.closed conn.old }
@@ -103,6 +105,7 @@ fn fill<N: Conn>(
     carry: &mut Carry,
     size: usize,
 ) -> Result<bool, ReadError>
+    requires not_closed { N.closed conn.old ≡ false }
     ensures grew { Grew (λ bytes. length bytes < size) (N.remaining conn.old) (N.remaining conn.new) carry.old carry.new }
     ensures filled { IfOk result (λ is_full. is_full ≡ true → size ≤ length carry.new) }
     ensures cut { IfOk result (λ is_full. is_full ≡ false → (length carry.new < size) × IsAtEnd (N.remaining conn.new)) }
@@ -125,6 +128,7 @@ fn read_chunked<N: Conn>(
     conn: &mut N,
     carry: &mut Carry,
 ) -> Result<BodyNext, ReadError>
+    requires not_closed { N.closed conn.old ≡ false }
     ensures reads { ReadsBody Framing.Chunked (N.remaining conn.old) (N.remaining conn.new) carry.old carry.new (next_of result) }
     ensures written { N.written conn.new ≡ N.written conn.old }
     ensures closed { N.closed conn.new ≡ N.closed conn.old }
@@ -149,7 +153,8 @@ fn take_chunks<N: Conn>(
     carry: &mut Carry,
     body: &mut Bytes,
 ) -> Result<Stop, ReadError>
-    requires { body.old ≡ [] }
+    requires empty { body.old ≡ [] }
+    requires not_closed { N.closed conn.old ≡ false }
     ensures took { TookChunks (N.remaining conn.old) (N.remaining conn.new) carry.old carry.new body.new }
     ensures found { IfOk result (IsStop (Stands (length body.new) carry.new) carry.new) }
     ensures end { IfOk result (λ stop. stop ≡ Stop.Open → IsAtEnd (N.remaining conn.new)) }
@@ -176,7 +181,8 @@ fn next_step<N: Conn>(
     carry: &mut Carry,
     so_far: usize,
 ) -> Result<Step, ReadError>
-    requires { so_far ≤ greatest_body }
+    requires within { so_far ≤ greatest_body }
+    requires not_closed { N.closed conn.old ≡ false }
     ensures grew { Grew (λ bytes. Stands so_far bytes Undecided) (N.remaining conn.old) (N.remaining conn.new) carry.old carry.new }
     ensures found { IfOk result (IsStep (Stands so_far carry.new) carry.new) }
     ensures end { IfOk result (λ step. step ≡ Step.Over Stop.Open → IsAtEnd (N.remaining conn.new)) }

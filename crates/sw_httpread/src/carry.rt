@@ -1,6 +1,6 @@
 //! Bytes that were read from a connection and are not used yet.
 
-ghost use Rattle.std.specs.Prelude.{◌≡◌, ◌≤◌, ◌+◌, [], length, drop, vec_len, vec_capacity, IfOk, OnOk, OnErr, IsErrOf};
+ghost use Rattle.std.specs.Prelude.{◌≡◌, ◌≤◌, ◌+◌, [], length, drop, vec_len, vec_capacity, IfOk, OnOk, OnErr, IsErrOf, false};
 ghost use Rattle.std.specs.Io.KnownBytes.{Keeps};
 ghost use Rattle.sw_httpread.specs.Reading.{CountsFault, IsRead};
 
@@ -65,6 +65,7 @@ impl Carry {
         alloc: Global,
         conn: &mut N,
     ) -> Result<usize, ReadError>
+        requires not_closed { N.closed conn.old ≡ false }
         ensures read { IfOk result (IsRead (N.remaining conn.old) (N.remaining conn.new) self.old self.new) }
         ensures kept { OnErr result (Keeps (N.remaining conn.old) (N.remaining conn.new) × (self.new ≡ self.old)) }
         ensures written { N.written conn.new ≡ N.written conn.old }

@@ -36,6 +36,7 @@ pub enum HeadNext {
 /// Reads the next head, which reaches to the first empty line behind a line that isn't empty. Nothing is read once the
 /// bytes that have come decide. What was read is kept unused, but for a head that is handed out.
 pub fn next_head<N: Conn>(alloc: Global, conn: &mut N, carry: &mut Carry) -> HeadNext
+    requires not_closed { N.closed conn.old ≡ false }
     ensures reads { ReadsHead (N.remaining conn.old) (N.remaining conn.new) carry.old carry.new result }
     ensures written { N.written conn.new ≡ N.written conn.old }
     ensures closed { N.closed conn.new ≡ N.closed conn.old }
@@ -66,6 +67,7 @@ fn is_blank(bytes: &[u8]) -> bool
 
 // Reads until a whole head has come, or the limit, or the end.
 fn find_head<N: Conn>(alloc: Global, conn: &mut N, carry: &mut Carry) -> Result<Ending, ReadError>
+    requires not_closed { N.closed conn.old ≡ false }
     ensures grew { Grew (IsUnended IsWholeHead) (N.remaining conn.old) (N.remaining conn.new) carry.old carry.new }
     ensures found { IfOk result (IsEnding IsWholeHead carry.new) }
     ensures end { IfOk result (λ ending. ending ≡ Ending.Unended → IsAtEnd (N.remaining conn.new)) }

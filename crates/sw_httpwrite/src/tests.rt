@@ -7,6 +7,7 @@ ghost use Rattle.sw_httpwrite.specs.Answer.{AreInLines, HasPhrase, IsInLine};
 use super::*;
 use http::StatusCode;
 use std::alloc::Global;
+use std::process::Abort;
 use std::test::Fail;
 use sw_io::{Conn, MemConn, WriteFailed};
 use sw_types::{Bytes, NoMemory};
@@ -141,19 +142,32 @@ fn the_bytes_of_the_interim_response(rt: HostRuntime) -> Result<(), Fail> {
     Ok(())
 }
 
-// The head is the first write, and the body is the second.
+// A short body is written with the head; the head is the first write, and a long body is the second.
 #[test]
 fn a_write_that_fails(rt: HostRuntime) -> Result<(), Fail> {
     let alloc = rt.alloc();
-    let answer = answer_of(alloc, &CASES[2])?;
-    let cases = [(0, ""), (1, "HTTP/1.1 200 OK\r\nContent-Length: 7\r\n\r\n")];
-    for (writes, want) in cases {
-        let mut conn = MemConn::new(alloc, Vec::new(alloc));
-        conn.fuse(writes);
-        let result = write_response(alloc, &mut conn, &answer);
-        assert_eq!(rt; result, Err(WriteEnd::WriteFault));
-        assert_eq!(rt; conn.written(), want.as_bytes(), "after {writes} writes");
-        assert_eq!(rt; conn.faults(), 1);
-    }
+    let head = "HTTP/1.1 200 OK\r\nContent-Length: 7\r\n\r\n";
+    let short = answer_of(alloc, &CASES[2])?;
+    expect_fault(&rt, alloc, &short, 0, "")?;
+    let fields = fields_of(alloc, CASES[2].fields)?.ok_or("a field of two lines")?;
+    let long = Answer::new(200, fields, Bytes::from(vec![in alloc; 0; 16_385]?), false);
+    expect_fault(&rt, alloc, &long, 0, "")?;
+    expect_fault(&rt, alloc, &long, 1, head)
+}
+
+// Where so many writes go well, this much is written.
+fn expect_fault(
+    rt: &impl Abort,
+    alloc: Global,
+    answer: &Answer,
+    writes: u64,
+    want: &str,
+) -> Result<(), Fail> {
+    let mut conn = MemConn::new(alloc, Vec::new(alloc));
+    conn.fuse(writes);
+    let result = write_response(alloc, &mut conn, answer);
+    assert_eq!(rt; result, Err(WriteEnd::WriteFault));
+    assert_eq!(rt; conn.written(), want.as_bytes(), "after {writes} writes");
+    assert_eq!(rt; conn.faults(), 1);
     Ok(())
 }

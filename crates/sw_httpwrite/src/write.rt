@@ -1,6 +1,6 @@
 //! Responses are written.
 
-ghost use Rattle.std.specs.Prelude.{◌≡◌, ◌≤◌, ◌++◌, IsErrOf, OnErr, OnOk};
+ghost use Rattle.std.specs.Prelude.{◌≡◌, ◌≤◌, ◌++◌, IsErrOf, OnErr, OnOk, false};
 ghost use Rattle.std.specs.Io.KnownBytes.{Appends};
 ghost use Rattle.sw_words.specs.Counts.{CountsFailure, FailsByCount, Rose, one_more};
 ghost use Rattle.sw_io.specs.Whole.{AppendsProperFront};
@@ -14,13 +14,16 @@ use sw_io::{Conn, WriteFailed};
 use sw_types::NoMemory;
 use thiserror::Error;
 
+// A body of at most so many bytes is written at once with the head.
+const GREATEST_JOINED: usize = 16_384;
+
 /// Why a response was not written whole.
 #[derive(Clone, Copy, Debug, PartialEq, Eq, Error)]
 pub enum WriteEnd {
     /// Writing failed, and the count of faults rose.
     #[error("writing failed")]
     WriteFault,
-    /// There was no memory for the head.
+    /// There was no memory for the head, or for a short body behind it.
     #[error("out of memory")]
     NoMemory,
 }
@@ -48,6 +51,7 @@ pub fn write_response<N: Conn>(
     conn: &mut N,
     response: &Answer,
 ) -> Result<(), WriteEnd>
+    requires not_closed { N.closed conn.old ≡ false }
     ensures whole { OnOk result (Appends (N.written conn.old) (N.written conn.new) (response_bytes response.now)) }
     ensures front { IsErrOf result WriteEnd.WriteFault → AppendsProperFront (N.written conn.old) (N.written conn.new) (response_bytes response.now) }
     ensures untouched { IsErrOf result WriteEnd.NoMemory → conn.new ≡ conn.old }
@@ -59,8 +63,14 @@ pub fn write_response<N: Conn>(
     ensures counted { IsErrOf result WriteEnd.WriteFault → N.faults conn.new ≡ one_more (N.faults conn.old) }
     ensures quiet { OnOk result (N.faults conn.new ≡ N.faults conn.old) }
 {
-    let head = head_of(alloc, response)?;
-    write_both(conn, head.as_slice(), response.body())?;
+    let mut head = head_of(alloc, response)?;
+    let body = response.body();
+    if body.len() > GREATEST_JOINED {
+        write_both(conn, head.as_slice(), body)?;
+    } else {
+        head.extend_from_slice(body)?;
+        write_all(conn, head.as_slice())?;
+    }
     Ok(())
 }
 
@@ -68,6 +78,7 @@ pub fn write_response<N: Conn>(
 /// all.
 #[tactic(auto, unfolding(crate::specs::Response::phrase_of))]
 pub fn write_continue<N: Conn>(conn: &mut N) -> Result<(), WriteFailed>
+    requires not_closed { N.closed conn.old ≡ false }
     ensures whole { OnOk result (Appends (N.written conn.old) (N.written conn.new) continue_bytes) }
     ensures front { OnErr result (AppendsProperFront (N.written conn.old) (N.written conn.new) continue_bytes) }
     ensures remaining { N.remaining conn.new ≡ N.remaining conn.old }
@@ -80,6 +91,7 @@ pub fn write_continue<N: Conn>(conn: &mut N) -> Result<(), WriteFailed>
 
 // Writes all of some bytes, and then all of some others.
 fn write_both<N: Conn>(conn: &mut N, first: &[u8], second: &[u8]) -> Result<(), WriteFailed>
+    requires not_closed { N.closed conn.old ≡ false }
     ensures whole { OnOk result (Appends (N.written conn.old) (N.written conn.new) (first.now ++ second.now)) }
     ensures front { OnErr result (AppendsProperFront (N.written conn.old) (N.written conn.new) (first.now ++ second.now)) }
     ensures remaining { N.remaining conn.new ≡ N.remaining conn.old }
@@ -93,6 +105,7 @@ fn write_both<N: Conn>(conn: &mut N, first: &[u8], second: &[u8]) -> Result<(), 
 
 // Writes all of the bytes.
 fn write_all<N: Conn>(conn: &mut N, bytes: &[u8]) -> Result<(), WriteFailed>
+    requires not_closed { N.closed conn.old ≡ false }
     ensures whole { OnOk result (Appends (N.written conn.old) (N.written conn.new) bytes.now) }
     ensures front { OnErr result (AppendsProperFront (N.written conn.old) (N.written conn.new) bytes.now) }
     ensures remaining { N.remaining conn.new ≡ N.remaining conn.old }

@@ -1,6 +1,6 @@
 //! Connections.
 
-ghost use Rattle.std.specs.Prelude.{◌≡◌, ℕ, ◌<◌, ◌≤◌, Bool, true, List, Option, IfOk, length};
+ghost use Rattle.std.specs.Prelude.{◌≡◌, ℕ, ◌<◌, ◌≤◌, Bool, true, false, List, Option, IfOk, length};
 ghost use Rattle.std.specs.Io.KnownBytes.{ReadConsumes, WriteAppends};
 ghost use Rattle.sw_words.specs.Counts.{CountsFailure, FailsByCount};
 
@@ -23,7 +23,8 @@ pub trait Conn {
     /// Reads into the front of `room`, and answers how many bytes came. None come only where the peer sends no more, and
     /// none are lost at `Err`.
     fn read(&mut self, room: &mut [u8]) -> Result<usize, ReadFailed>
-        requires { 0 < length room.old }
+        requires room { 0 < length room.old }
+        requires not_closed { closed self.old ≡ false }
         ensures count { IfOk result (λ n. n ≤ length room.new) }
         ensures bytes { ReadConsumes (remaining self.old) (remaining self.new) result room.new }
         ensures written { written self.new ≡ written self.old }
@@ -33,7 +34,8 @@ pub trait Conn {
 
     /// Writes a front of `piece`, at least one byte, and answers how many.
     fn write(&mut self, piece: &[u8]) -> Result<usize, WriteFailed>
-        requires { 0 < length piece.now }
+        requires piece { 0 < length piece.now }
+        requires not_closed { closed self.old ≡ false }
         ensures count { IfOk result (λ n. (0 < n) × (n ≤ length piece.now)) }
         ensures bytes { WriteAppends (written self.old) (written self.new) result piece.now }
         ensures remaining { remaining self.new ≡ remaining self.old }
@@ -43,6 +45,7 @@ pub trait Conn {
 
     /// Ends the connection for the peer. What was read and written stays, and so does the count.
     fn close(&mut self)
+        requires { closed self.old ≡ false }
         ensures remaining { remaining self.new ≡ remaining self.old }
         ensures written { written self.new ≡ written self.old }
         ensures faults { faults self.new ≡ faults self.old }

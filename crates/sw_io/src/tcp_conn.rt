@@ -11,6 +11,12 @@ use std::time::Duration;
 // For how many seconds a read or a write may wait for the peer.
 const LONGEST_WAIT: u64 = 60;
 
+// For how many seconds a peer may pause that sends on though its connection is closed.
+const LONGEST_PAUSE: u64 = 1;
+
+// How many reads of what it sends are passed over.
+const MOST_PASSED_OVER: u32 = 8_192;
+
 // How often a call is made again that signals interrupt.
 const MOST_INTERRUPTIONS: u32 = 1_000;
 
@@ -71,11 +77,29 @@ impl Conn for TcpConn {
         }
     }
 
-    /// Shuts the stream down, both ways. The peer sees the end, also where the system says that this failed, at the latest
-    /// when the connection is dropped.
+    /// Tells the peer that no more comes, passes over what it is still sending, up to its end, 32 MiB or a pause of a second, and shuts the
+    /// stream down: a stream that is closed over bytes that were not read is reset, and the peer may lose the last answer (RFC 9112,
+    /// section 9.6). The peer sees the end, also where the system says that this failed, at the latest when the connection is dropped.
     fn close(&mut self) {
+        let _ = self.stream.shutdown(Shutdown::Write);
+        pass_over(&mut self.stream);
         let _ = self.stream.shutdown(Shutdown::Both);
         self.is_closed = true;
+    }
+}
+
+// Reads what a peer is still sending, and drops it.
+fn pass_over(stream: &mut TcpStream) {
+    let pause = Duration::from_secs(LONGEST_PAUSE);
+    if stream.set_read_timeout(Some(pause)).is_err() {
+        return;
+    }
+    let mut room = [0; 4096];
+    for _ in 0..MOST_PASSED_OVER {
+        match stream.read(&mut room) {
+            Ok(0) | Err(_) => return,
+            Ok(_) => {}
+        }
     }
 }
 

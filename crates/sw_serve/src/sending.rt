@@ -1,6 +1,6 @@
 //! Answers are sent.
 
-ghost use Rattle.std.specs.Prelude.{◌≡◌, ◌⊎◌, ◌≤◌, List, ℕ, OnErr, OnOk, true};
+ghost use Rattle.std.specs.Prelude.{◌≡◌, ◌⊎◌, ◌≤◌, List, ℕ, OnErr, OnOk, true, false};
 ghost use Rattle.std.specs.Io.KnownBytes.{Appends};
 ghost use Rattle.sw_words.specs.Counts.{CountsFailure, FailsByCount, one_more};
 ghost use Rattle.sw_io.specs.Whole.{AppendsProperFront};
@@ -21,6 +21,7 @@ use sw_response::wanting_answer;
 
 /// Writes leave to send a body, where the client waits for it.
 pub(crate) fn give_leave<N: Conn>(conn: &mut N, waits: bool) -> Result<(), WriteFailed>
+    requires not_closed { N.closed conn.old ≡ false }
     ensures whole { OnOk result (Appends (N.written conn.old) (N.written conn.new) (leave_bytes waits)) }
     ensures front { OnErr result ((waits ≡ true) × AppendsProperFront (N.written conn.old) (N.written conn.new) continue_bytes) }
     ensures remaining { N.remaining conn.new ≡ N.remaining conn.old }
@@ -36,6 +37,7 @@ pub(crate) fn give_leave<N: Conn>(conn: &mut N, waits: bool) -> Result<(), Write
 
 /// Writes an answer.
 pub(crate) fn send<N: Conn>(alloc: Global, conn: &mut N, to_head: bool, answer: &Answer) -> Turn
+    requires not_closed { N.closed conn.old ≡ false }
     ensures sent { (told : List ℕ) × Appends (N.written conn.old) (N.written conn.new) told × IsSent answer.now to_head result told }
     ensures remaining { N.remaining conn.new ≡ N.remaining conn.old }
     ensures closed { N.closed conn.new ≡ N.closed conn.old }
@@ -52,6 +54,7 @@ pub(crate) fn send<N: Conn>(alloc: Global, conn: &mut N, to_head: bool, answer: 
 
 /// Answers what is no head, or no body.
 pub(crate) fn refuse<N: Conn>(alloc: Global, conn: &mut N, to_head: bool, input: BadInput) -> Turn
+    requires not_closed { N.closed conn.old ≡ false }
     ensures sent { (told : List ℕ) × Appends (N.written conn.old) (N.written conn.new) told × IsSent (refusal_answer to_head true (refusal_of input)) to_head result told }
     ensures remaining { N.remaining conn.new ≡ N.remaining conn.old }
     ensures closed { N.closed conn.new ≡ N.closed conn.old }
@@ -65,6 +68,7 @@ pub(crate) fn refuse<N: Conn>(alloc: Global, conn: &mut N, to_head: bool, input:
 
 /// The connection is over for want of memory. That is written, as far as memory and the connection allow.
 pub(crate) fn want<N: Conn>(alloc: Global, conn: &mut N, to_head: bool) -> Turn
+    requires not_closed { N.closed conn.old ≡ false }
     ensures over { result ≡ Turn.Over ConnEnd.NoMemory }
     ensures told { (front : List ℕ) × Appends (N.written conn.old) (N.written conn.new) front × IsFront front (response_bytes (wanting_answer to_head)) }
     ensures remaining { N.remaining conn.new ≡ N.remaining conn.old }

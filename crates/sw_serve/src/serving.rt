@@ -1,6 +1,6 @@
 //! Connections are served.
 
-ghost use Rattle.std.specs.Prelude.{◌≡◌, Some, true};
+ghost use Rattle.std.specs.Prelude.{◌≡◌, Some, true, false};
 ghost use Rattle.sw_message.specs.Running.{StillTells};
 ghost use Rattle.sw_ring.specs.Cluster.{ClusterModel};
 ghost use Rattle.sw_serve.specs.Ends.{CountsEnd};
@@ -21,7 +21,8 @@ pub fn serve_connection<N: Conn, L: Draw>(
     cluster: &Cluster,
     link: &mut L,
 ) -> ConnEnd
-    requires { (of : ClusterModel) → L.cluster link.old ≡ Some of → cluster.now ≡ of }
+    requires cluster { (of : ClusterModel) → L.cluster link.old ≡ Some of → cluster.now ≡ of }
+    requires not_closed { N.closed conn.old ≡ false }
     ensures serves { Serves (record { draws = L.draws; calls = L.calls; losses = L.losses; refusals = L.refusals; learnt = L.learnt; may_be_silent = L.may_be_silent }) cluster.now (N.remaining conn.old) (N.remaining conn.new) (N.written conn.old) (N.written conn.new) link.old result link.new }
     ensures counts { CountsEnd result (N.faults conn.old) (N.faults conn.new) }
     ensures closed { N.closed conn.new ≡ true }
@@ -41,9 +42,11 @@ fn serve_all<N: Conn, L: Draw>(
     cluster: &Cluster,
     link: &mut L,
 ) -> ConnEnd
-    requires { (of : ClusterModel) → L.cluster link.old ≡ Some of → cluster.now ≡ of }
+    requires cluster { (of : ClusterModel) → L.cluster link.old ≡ Some of → cluster.now ≡ of }
+    requires not_closed { N.closed conn.old ≡ false }
     ensures serves { Serves (record { draws = L.draws; calls = L.calls; losses = L.losses; refusals = L.refusals; learnt = L.learnt; may_be_silent = L.may_be_silent }) cluster.now (N.remaining conn.old) (N.remaining conn.new) (N.written conn.old) (N.written conn.new) link.old result link.new }
     ensures counts { CountsEnd result (N.faults conn.old) (N.faults conn.new) }
+    ensures closed { N.closed conn.new ≡ N.closed conn.old }
     ensures tells { StillTells (L.may_be_silent link.new) (L.learnt link.old) (L.learnt link.new) }
     ensures silence { L.may_be_silent link.old → L.may_be_silent link.new }
     ensures cluster { L.cluster link.new ≡ L.cluster link.old }

@@ -125,9 +125,9 @@ fn ends_within_a_request(rt: HostRuntime) -> Result<(), Fail> {
         assert_eq!(rt; ended, end);
         assert_eq!(rt; written.as_slice(), want.as_bytes());
     }
-    // An answer is written before the next head is waited for: a read, a write of its head and one of its body, a read.
+    // An answer is written before the next head is waited for: a read, a write of its head and its body, a read.
     let get = b"GET /v1/a/c/o HTTP/1.1\r\nHost: h\r\n\r\n";
-    let (ended, written) = serve(alloc, get, 65_536, Some(3))?;
+    let (ended, written) = serve(alloc, get, 65_536, Some(2))?;
     assert_eq!(rt; ended, ConnEnd::ReadFault);
     let absent =
         "HTTP/1.1 404 Not Found\r\nContent-Length: 7\r\nContent-Type: text/plain\r\n\r\nAbsent\n";

@@ -4,14 +4,14 @@ use Rattle.sw_httpread.proofs.body.take_chunks.Goals as goal
 
 pub chunks-init : goal.chunks-init
 chunks-init g c = record {
-  took = rw c.requires (took_start _ _);
+  took = rw c.requires.empty (took_start _ _);
   written = refl;
   closed = refl;
   quiet = refl;
 }
 
-pub next_step-requires : goal.next_step-requires
-next_step-requires g c = omega (arith, c.len.ensures, took_bound _ _ _ _ _ c.chunks.invariant.took)
+pub next_step-requires-clause-within : goal.next_step-requires-clause-within
+next_step-requires-clause-within g c = omega (arith, c.len.ensures, took_bound _ _ _ _ _ c.chunks.invariant.took)
 
 pub returns-in_err-start-clause-took : goal.returns-in_err-start-clause-took
 returns-in_err-start-clause-took g c = took_next _ _ _ _ _ _ _ _ c.len.ensures c.chunks.invariant.took c.in_err-start.ensures.grew

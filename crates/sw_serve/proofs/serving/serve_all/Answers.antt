@@ -24,6 +24,7 @@ pub loop-answered-preserved : goal.loop-answered-preserved
 loop-answered-preserved g c = record {
   served = goes_on _ _ c.loop-answered.answered _ _ _ _ _ _ _ _ _ _ _ c.loop-answered.invariant.served c.in-Answered-false.closes c.in-Answered-false.ensures.takes c.in-Answered-false.closes-test;
   faults = c.in-Answered-false.ensures.counts.quiet tt ∙ c.loop-answered.invariant.faults;
+  closed = c.serve_next.ensures.closed ∙ c.loop-answered.invariant.closed;
   tells = still_more (g.L.Link.may_be_silent c.loop-answered.link) (g.L.Link.may_be_silent c.serve_next.new.link) c.serve_next.ensures.silence (g.L.Link.learnt c.args.link.now) (g.L.Link.learnt c.loop-answered.link) (g.L.Link.learnt c.serve_next.new.link)
       c.serve_next.ensures.tells c.loop-answered.invariant.tells;
   silence = λ may. c.serve_next.ensures.silence (c.loop-answered.invariant.silence may);
