@@ -18,8 +18,8 @@ impl<R: Host> Disk for HostDisk<R> {
 
     ghost tells = { false };
 
-    fn folders(&mut self, _alloc: Global) -> Result<Vec<String>, DiskRefusal> {
-        match self.folder_names() {
+    fn folders(&mut self, alloc: Global) -> Result<Vec<String>, DiskRefusal> {
+        match self.folder_names(alloc) {
             Ok(names) => Ok(names),
             Err(fault) => Err(self.refuse(fault)),
         }

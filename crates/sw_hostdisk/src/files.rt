@@ -3,6 +3,7 @@
 use crate::fault::HostFault;
 use crate::host::Host;
 use crate::path::{HostPath, below};
+use arrayvec::ArrayVec;
 use std::alloc::Global;
 use std::fs;
 use std::fs::File;
@@ -14,42 +15,51 @@ pub(crate) fn sync_folder<R: Host>(host: &R, folder: &HostPath) -> Result<(), Ho
     Ok(())
 }
 
-/// Makes the folders that a text names, one within the other, where they are missing. Each is there after a loss of power
-/// once this is Ok, if those that were there at first are.
+/// Folders in which a folder was made whose name is not stable yet.
+pub(crate) type Unsettled = ArrayVec<HostPath, 4>;
+
+/// Makes the folders that a text names, one within the other, where they are missing. What is there and no folder, as a link, is
+/// somebody else's.
 pub(crate) fn make_folders<R: Host>(
     host: &R,
     base: &HostPath,
     folder: &str,
+    unsettled: &mut Unsettled,
 ) -> Result<HostPath, HostFault> {
     let mut path = *base;
     for name in folder.split('/') {
-        path = make_folder(host, &path, name)?;
+        let (next, is_new) = make_folder(host, &path, name)?;
+        if !is_new {
+            require_folder(host, &next)?;
+        } else if unsettled.try_push(path).is_err() {
+            sync_folder(host, &path)?;
+        }
+        path = next;
     }
     Ok(path)
 }
 
-/// Makes a folder within another, where it is missing.
+// Fails where there is no folder, but a link to one, say.
+fn require_folder<R: Host>(host: &R, path: &HostPath) -> Result<(), HostFault> {
+    if fs::symlink_metadata(host, path.as_str())?.is_dir() {
+        Ok(())
+    } else {
+        Err(HostFault::Failed)
+    }
+}
+
+/// Makes a folder within another, where it is missing, and tells whether it was. Its name is not stable by that.
 pub(crate) fn make_folder<R: Host>(
     host: &R,
     parent: &HostPath,
     name: &str,
-) -> Result<HostPath, HostFault> {
+) -> Result<(HostPath, bool), HostFault> {
     let path = below(parent, name)?;
     match fs::create_dir(host, path.as_str()) {
-        Ok(()) => keep_folder(host, parent, &path)?,
-        Err(error) if error.kind() == ErrorKind::AlreadyExists => {}
-        Err(error) => return Err(error.into()),
+        Ok(()) => Ok((path, true)),
+        Err(error) if error.kind() == ErrorKind::AlreadyExists => Ok((path, false)),
+        Err(error) => Err(error.into()),
     }
-    Ok(path)
-}
-
-// Makes a new folder stable, or takes it back, so that the next try makes it anew.
-fn keep_folder<R: Host>(host: &R, parent: &HostPath, path: &HostPath) -> Result<(), HostFault> {
-    let synced = sync_folder(host, parent);
-    if synced.is_err() {
-        let _ = fs::remove_dir(host, path.as_str());
-    }
-    synced
 }
 
 /// How many bytes a plain file has. Anything else, as a link, is no file of a disk.

@@ -6,6 +6,8 @@ mod disk;
 mod fault;
 mod files;
 mod host;
+mod identity;
+mod known;
 mod path;
 mod shelf;
 mod walk;

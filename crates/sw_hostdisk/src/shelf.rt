@@ -48,12 +48,12 @@ impl<R: Host> HostShelf<R> {
         ensures faults { self.new.faults ≡ self.old.faults }
         ensures out { self.new.out ≡ self.old.out }
     {
-        let data = make_folder(&self.host, &self.root, "data")?;
+        let (data, _) = make_folder(&self.host, &self.root, "data")?;
         if self.lock.is_none() {
             self.lock = Some(locked(&self.host, &data)?);
         }
         let device = device.to_string(alloc)?;
-        let base = make_folder(&self.host, &data, &device)?;
+        let (base, _) = make_folder(&self.host, &data, &device)?;
         sync_folder(&self.host, &self.root)?;
         sync_folder(&self.host, &data)?;
         HostDisk::open(self.host.clone()?, base, capacity)

@@ -15,6 +15,8 @@ type TestDisk = HostDisk<LibcRuntime>;
 
 const FOLDER: &str = "objects/9/f72/900150983cd24fb0d6963f7d28e17f72";
 
+const OTHER: &str = "objects/9/a0b/00000000000000000000000000000a0b";
+
 // A folder of the host that is empty and only of this run.
 fn empty_folder(rt: &LibcRuntime) -> Result<String, Fail> {
     let temp = env::temp_dir(rt)?;
@@ -86,7 +88,9 @@ fn keeps_files_of_the_host(rt: HostRuntime) -> Result<(), Fail> {
     assert_eq!(rt; disk.sync_tmp(), Err(DiskRefusal::Failed));
     expect_full(&rt, alloc, &mut disk, 11, 10);
     change_files(&rt, alloc, &mut disk)?;
+    fill_and_empty(&rt, alloc, &mut disk)?;
     let base = format!(in alloc; "{root}/data/3")?;
+    refuse_and_miss(&rt, &rt, &mut disk, &base)?;
     add_foreign_files(&rt, &base)?;
     assert_eq!(rt; disk.sync_dir("objects/8"), Err(DiskRefusal::Failed));
     shelf.back(3, disk);
@@ -115,6 +119,99 @@ fn change_files(rt: &impl Abort, alloc: Global, disk: &mut TestDisk) -> Result<(
     expect_names(rt, alloc, disk, &["c"])?;
     expect_full(rt, alloc, disk, 9, 8);
     Ok(())
+}
+
+// The disk has these folders, and no others.
+fn expect_folders(
+    rt: &impl Abort,
+    alloc: Global,
+    disk: &mut TestDisk,
+    folders: &[&str],
+) -> Result<(), Fail> {
+    let listed = disk.folders(alloc)?;
+    assert_eq!(rt; listed.len(), folders.len());
+    for place in 0..2usize {
+        assert_eq!(rt;
+            listed.get(place).map(|folder| folder.as_str()),
+            folders.get(place).copied()
+        );
+    }
+    Ok(())
+}
+
+// A folder is one of the disk's while it has a file, whether the disk knows so or looks again after a failure.
+fn fill_and_empty(rt: &impl Abort, alloc: Global, disk: &mut TestDisk) -> Result<(), Fail> {
+    fill(rt, alloc, disk)?;
+    empty(rt, alloc, disk)?;
+    fill_again(rt, alloc, disk)
+}
+
+fn fill(rt: &impl Abort, alloc: Global, disk: &mut TestDisk) -> Result<(), Fail> {
+    expect_folders(rt, alloc, disk, &[FOLDER])?;
+    put(disk, alloc, OTHER, "e", b"1")?;
+    put(disk, alloc, FOLDER, "f", b"23")?;
+    expect_folders(rt, alloc, disk, &[OTHER, FOLDER])
+}
+
+fn empty(rt: &impl Abort, alloc: Global, disk: &mut TestDisk) -> Result<(), Fail> {
+    take(disk, FOLDER, "f")?;
+    expect_folders(rt, alloc, disk, &[OTHER, FOLDER])?;
+    take(disk, FOLDER, "c")?;
+    expect_folders(rt, alloc, disk, &[OTHER])
+}
+
+fn fill_again(rt: &impl Abort, alloc: Global, disk: &mut TestDisk) -> Result<(), Fail> {
+    assert!(rt; take(disk, FOLDER, "c").is_err());
+    expect_folders(rt, alloc, disk, &[OTHER])?;
+    put(disk, alloc, FOLDER, "c", b"67")?;
+    expect_folders(rt, alloc, disk, &[OTHER, FOLDER])?;
+    take(disk, OTHER, "e")?;
+    expect_folders(rt, alloc, disk, &[FOLDER])
+}
+
+// The same as `store`, of which nothing is said.
+fn put(
+    disk: &mut TestDisk,
+    alloc: Global,
+    folder: &str,
+    name: &str,
+    bytes: &[u8],
+) -> Result<(), DiskRefusal>
+    requires folder { length folder.now ≤ 64 }
+    requires name { length name.now ≤ 96 }
+{
+    store(disk, alloc, folder, name, bytes)
+}
+
+fn take(disk: &mut TestDisk, folder: &str, name: &str) -> Result<(), DiskRefusal>
+    requires folder { length folder.now ≤ 64 }
+    requires name { length name.now ≤ 96 }
+{
+    disk.remove(folder, name)
+}
+
+// A folder of another form is refused, and a disk whose folder is away fails until it is back.
+fn refuse_and_miss(
+    rt: &impl Abort,
+    host: &LibcRuntime,
+    disk: &mut TestDisk,
+    base: &str,
+) -> Result<(), Fail> {
+    let alloc = host.alloc();
+    assert!(rt; put(disk, alloc, "objects/9", "g", b"4").is_err());
+    let away = format!(in alloc; "{base}.away")?;
+    fs::rename(host, base, &away)?;
+    assert!(rt; fails(alloc, disk));
+    fs::create_dir(host, base)?;
+    assert!(rt; fails(alloc, disk));
+    fs::remove_dir(host, base)?;
+    fs::rename(host, &away, base)?;
+    expect_folders(rt, alloc, disk, &[FOLDER])
+}
+
+// Whether the disk tells neither its folders nor the files of an empty one.
+fn fails(alloc: Global, disk: &mut TestDisk) -> bool {
+    disk.list(alloc, OTHER).is_err() && disk.folders(alloc).is_err()
 }
 
 // Files and folders that are none of a disk's.

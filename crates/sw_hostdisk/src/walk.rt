@@ -32,7 +32,8 @@ pub(crate) fn files_in<R: Host>(host: &R, folder: &HostPath) -> Result<Vec<Strin
     in_order(names_in(host, folder, Kind::File)?)
 }
 
-fn in_order(names: Vec<String>) -> Result<Vec<String>, HostFault>
+/// These names, ascending.
+pub(crate) fn in_order(names: Vec<String>) -> Result<Vec<String>, HostFault>
     ensures { IfOk result (λ names. IsSorted (slice_cmp nat_cmp) (texts_of names.items)) }
 {
     let mut names = names;
@@ -81,27 +82,24 @@ fn is_of(metadata: &Metadata, kind: Kind) -> bool {
     }
 }
 
-/// The folders of a disk.
+/// A walk through the folders of a disk. What may not be stable in them is made so on the way: the names of folders, and that the
+/// last file of a folder was removed.
 #[derive(Drop)]
 pub(crate) struct Walk<'a, R> {
     pub(crate) host: &'a R,
     pub(crate) base: &'a HostPath,
-    /// Whether the names in each folder above those of objects are made stable on the way.
-    pub(crate) syncs: bool,
 }
 
 impl<'a, R: Host> Walk<'a, R> {
-    /// The folders that have the form of an object's, `objects/PART/SUFFIX/HASH`, and a file, ascending.
-    pub(crate) fn folders(&self) -> Result<Vec<String>, HostFault>
-        ensures { IfOk result (λ names. IsSorted (slice_cmp nat_cmp) (texts_of names.items)) }
-    {
+    /// The folders that have the form of an object's, `objects/PART/SUFFIX/HASH`, and a file.
+    pub(crate) fn folders(&self) -> Result<Vec<String>, HostFault> {
         let mut found = Vec::new(self.host.alloc());
         for part in self.folders_in("objects")? {
             if is_part(part.as_bytes()) {
                 self.add_part(&part, &mut found)?;
             }
         }
-        in_order(found)
+        Ok(found)
     }
 
     fn add_part(&self, part: &str, found: &mut Vec<String>) -> Result<(), HostFault> {
@@ -122,7 +120,7 @@ impl<'a, R: Host> Walk<'a, R> {
     ) -> Result<(), HostFault> {
         let folder = format!(in self.host.alloc(); "{part}/{suffix}")?;
         for hash in self.folders_in(&folder)? {
-            if is_hash(hash.as_bytes()) && hash.ends_with(suffix) {
+            if is_hash_of(&hash, suffix) {
                 let place = format!(in self.host.alloc(); "{folder}/{hash}")?;
                 self.add_place(place, found)?;
             }
@@ -132,9 +130,10 @@ impl<'a, R: Host> Walk<'a, R> {
 
     fn add_place(&self, place: String, found: &mut Vec<String>) -> Result<(), HostFault> {
         let path = folder_below(self.base, &place)?;
-        if !files_in(self.host, &path)?.is_empty() {
-            found.push(place)?;
+        if files_in(self.host, &path)?.is_empty() {
+            return sync_folder(self.host, &path);
         }
+        found.push(place)?;
         Ok(())
     }
 
@@ -142,7 +141,7 @@ impl<'a, R: Host> Walk<'a, R> {
     fn folders_in(&self, folder: &str) -> Result<Vec<String>, HostFault> {
         let path = folder_below(self.base, folder)?;
         let names = names_in(self.host, &path, Kind::Folder)?;
-        if self.syncs && !names.is_empty() {
+        if !names.is_empty() {
             sync_folder(self.host, &path)?;
         }
         Ok(names)
@@ -167,12 +166,31 @@ impl<'a, R: Host> Walk<'a, R> {
     }
 }
 
+/// Whether a text has the form of a folder of an object, `objects/PART/SUFFIX/HASH`.
+pub(crate) fn is_place(folder: &str) -> bool {
+    let Some((top, rest)) = folder.split_once('/') else {
+        return false;
+    };
+    let Some((part, rest)) = rest.split_once('/') else {
+        return false;
+    };
+    let Some((suffix, hash)) = rest.split_once('/') else {
+        return false;
+    };
+    top == "objects" && is_part(part.as_bytes()) && suffix.len() == 3 && is_hash_of(hash, suffix)
+}
+
 // Whether a name is the number of a partition.
 fn is_part(name: &[u8]) -> bool {
     match read_decimal(name) {
         Some(part) => part <= u64::from(u32::MAX),
         None => false,
     }
+}
+
+// Whether a name is a hash with this suffix.
+fn is_hash_of(hash: &str, suffix: &str) -> bool {
+    is_hash(hash.as_bytes()) && hash.ends_with(suffix)
 }
 
 // Whether a name is the 32 digits of a hash.
