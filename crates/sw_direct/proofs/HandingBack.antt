@@ -2,10 +2,13 @@
 use Rattle.std.proofs.Common.{◌≡◌, ℕ, ◌-◌, List, [], ◌∷◌, ◌++◌, drop, length, map, Option, None, Some, refl, sym, ap, subst, ◌∙◌, arith}
 use Rattle.std.proofs.lemmas.List.{append_assoc, append-nil}
 use Rattle.std.specs.Option.{option_to_list}
-use Rattle.sw_disk.specs.Runs.{Seen}
+use Rattle.std.specs.Prelude.{MatchOption, ⊤}
+use Rattle.sw_disk.specs.Runs.{Past, Seen}
+use Rattle.sw_ring.specs.Cluster.{ClusterModel}
+use Rattle.sw_ring.specs.declared.device.Device.{Device}
 use Rattle.sw_shelf.specs.Shelf.{after_back, with_one}
 use Rattle.sw_objsrv.specs.Node.{NodeModel}
-use Rattle.sw_direct.specs.Mounted.{IsOfFirst, disks_of, with_faults}
+use Rattle.sw_direct.specs.Mounted.{Handing, IsOfFirst, IsRefused, disks_of, with_faults}
 use Rattle.sw_shelf.specs.Shelf.{with_all}
 
 -- what loses its first item and stays the same is empty
@@ -30,9 +33,10 @@ one_back (Some items) one = refl
 abbrev pub one_of : {D : Type 0} → ℕ → Option D → List (ℕ × D)
 one_of {D} id failed = map (λ (disk : D). (id, disk)) (option_to_list failed)
 
-pub is_of_first : {D : Type 0} (id : ℕ) (others : List ℕ) (failed : Option D) → IsOfFirst (id ∷ others) (one_of id failed)
-is_of_first id others None = tt
-is_of_first id others (Some disk) = refl
+pub is_of_first : {D S : Type 0} (seen : D → Seen) (left_since : D → Past) (hands : Handing S D) (cluster : ClusterModel) (device : Device) (others : List Device) (failed : Option D)
+    → MatchOption failed ⊤ (IsRefused seen left_since hands cluster device) → IsOfFirst seen left_since hands cluster (device ∷ others) (one_of device.id failed)
+is_of_first seen left_since hands cluster device others None is = tt
+is_of_first seen left_since hands cluster device others (Some disk) is = (refl, is)
 
 module _ {D : Type 0} (seen : D → Seen) where
   abbrev pub ids_in : List (NodeModel D) → List ℕ

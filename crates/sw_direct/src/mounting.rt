@@ -1,6 +1,6 @@
 //! Disks of a shelf, mounted as the nodes of a cluster, and handed back.
 
-ghost use Rattle.std.specs.Prelude.{◌≡◌, ◌++◌, ◌+◌, List, ℕ, Option, IfOk, IsErrOf, OnErr, length, map, option_to_list};
+ghost use Rattle.std.specs.Prelude.{◌≡◌, ◌++◌, ◌+◌, List, ℕ, Option, IfOk, IsErrOf, MatchOption, OnErr, length, map, option_to_list, ⊤};
 ghost use Rattle.sw_words.specs.Counts.{one_more};
 ghost use Rattle.sw_message.specs.Message.{IsMember};
 ghost use Rattle.sw_objsrv.specs.Node.{NodeModel, IsNode};
@@ -8,7 +8,7 @@ ghost use Rattle.sw_ring.specs.Cluster.{ids_of};
 ghost use Rattle.sw_shelf.specs.Shelf.{with_all};
 ghost use Rattle.sw_shelf.specs.declared.fault.ShelfFault.TheVariants.{Failed, NoMemory as WantOfMemory};
 ghost use Rattle.sw_direct.specs.Direct.{AreNodes};
-ghost use Rattle.sw_direct.specs.Mounted.{AreMounted, CameBack, IsMounted, disks_of, with_faults};
+ghost use Rattle.sw_direct.specs.Mounted.{AreMounted, CameBack, IsMounted, IsRefused, disks_of, with_faults};
 
 use std::alloc::Global;
 use std::collections::VecDeque;
@@ -29,7 +29,7 @@ pub fn mount_all<F: Shelf>(
     ensures returned { IfOk result (λ nodes. F.returned shelf.new ≡ F.returned shelf.old) }
     ensures quiet { IfOk result (λ nodes. F.faults shelf.new ≡ F.faults shelf.old) }
     ensures back { OnErr result (F.out shelf.new ≡ 0) }
-    ensures came_back { OnErr result (CameBack (ids_of cluster.now) (F.returned shelf.old) (F.returned shelf.new)) }
+    ensures came_back { OnErr result (CameBack F.Disk.seen F.Disk.left_since F.hands cluster.now (F.returned shelf.old) (F.returned shelf.new)) }
     ensures failed { IsErrOf result Failed → F.faults shelf.new ≡ one_more (F.faults shelf.old) }
     ensures no_memory { IsErrOf result WantOfMemory → F.faults shelf.new ≡ F.faults shelf.old }
 {
@@ -64,7 +64,7 @@ fn mount<F: Shelf>(
     ensures quiet { IfOk result (λ node. F.faults shelf.new ≡ F.faults shelf.old) }
     ensures failed { IsErrOf result Failed → F.faults shelf.new ≡ one_more (F.faults shelf.old) }
     ensures no_memory { IsErrOf result WantOfMemory → F.faults shelf.new ≡ F.faults shelf.old }
-    ensures came_back { OnErr result ((failed : Option F.Disk) × (F.returned shelf.new ≡ with_all (F.returned shelf.old) (map (λ disk. (device.now.id, disk)) (option_to_list failed)))) }
+    ensures came_back { OnErr result ((failed : Option F.Disk) × MatchOption failed ⊤ (IsRefused F.Disk.seen F.Disk.left_since F.hands cluster.now device.now) × (F.returned shelf.new ≡ with_all (F.returned shelf.old) (map (λ disk. (device.now.id, disk)) (option_to_list failed)))) }
     ensures back { OnErr result (F.out shelf.old + 1 ≡ one_more (F.out shelf.old) → F.out shelf.new ≡ F.out shelf.old) }
 {
     let disk = shelf.disk(alloc, device.id, device.capacity)?;

@@ -1,5 +1,5 @@
--- A command and an input give one status and one text at most, unless memory is wanted.
-use Rattle.std.proofs.Common.{◌≡◌, ◌≢◌, ℕ, nat_lt, length, Bool, true, false, List, Option, None, Some, [], Result, Ok, Err, sym, ap, subst, ◌∙◌}
+-- An input gives `play` one status and one text at most, unless memory is wanted.
+use Rattle.std.proofs.Common.{◌≡◌, ◌≢◌, ℕ, nat_lt, length, Bool, true, false, List, [], Result, Ok, Err, sym, ap, subst, ◌∙◌}
 use Rattle.sw_ring.specs.Cluster.{ClusterModel, IsCluster, KeepsRules}
 use Rattle.sw_ring.specs.Members.{RingMembers}
 use Rattle.sw_ring.specs.declared.fault.RingFault.{RingFault}
@@ -9,11 +9,9 @@ use Rattle.sw_play.specs.Play.{IsRun}
 use Rattle.sw_play.specs.declared.playing.PlayEnd.{PlayEnd}
 use Rattle.sw_play.specs.declared.playing.PlayEnd.TheVariants as ended
 use Rattle.swift_main.specs.Input.{ring_in, script_in}
-use Rattle.swift_main.specs.Outcome.{EndsAs, Gives, InputGives, RingGives, ScriptGives, greatest_input}
-use Rattle.swift_main.specs.declared.command.Command.{Command}
-use Rattle.swift_main.specs.declared.command.Command.TheVariants.{Play}
+use Rattle.swift_main.specs.Outcome.{EndsAs, InputGives, PlayGives, RingGives, ScriptGives, greatest_input}
 use Rattle.swift_main.specs.declared.status.Status.{Status}
-use Rattle.swift_main.specs.declared.status.Status.TheVariants.{Done, Usage, Ring, Line, NoMemory, ReadFault, WriteFault, Spent, TooLong}
+use Rattle.swift_main.specs.declared.status.Status.TheVariants.{Done, Usage, Ring, Line, NoMemory, ReadFault, WriteFault, ShelfFault, DoorFault, Spent, TooLong}
 
 abbrev pub ClusterLaw : Type 0
 ClusterLaw = (members : RingMembers) (one other : ClusterModel) → IsCluster members one → IsCluster members other → one ≡ other
@@ -48,6 +46,8 @@ status_is Usage end none = absurd none
 status_is (Ring fault) end none = absurd none
 status_is ReadFault end none = absurd none
 status_is WriteFault end none = absurd none
+status_is ShelfFault end none = absurd none
+status_is DoorFault end none = absurd none
 status_is TooLong end none = absurd none
 
 wants_none : (status : Status) (end : PlayEnd) → EndsAs status end → status ≢ NoMemory → end ≢ ended.NoMemory
@@ -70,6 +70,5 @@ module _ (cluster_law : ClusterLaw) (text_law : TextLaw) where
   input_alike true input = alone TooLong
   input_alike false input = ring_alike (ring_in input) (script_in input)
 
-  pub alike : (command : Option Command) (input : List ℕ) → AreAlike (Gives command input)
-  alike None input = alone Usage
-  alike (Some Play) input = input_alike (nat_lt greatest_input (length input)) input
+  pub alike : (input : List ℕ) → AreAlike (PlayGives input)
+  alike input = input_alike (nat_lt greatest_input (length input)) input

@@ -1,4 +1,6 @@
 mod Alike
 mod EmptyLines
+mod Inputs
 mod Outcomes
-mod Outsides
+mod Played
+mod Refused

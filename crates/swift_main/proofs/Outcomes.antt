@@ -1,5 +1,5 @@
--- Answers that keep to what the command and the input give.
-use Rattle.std.proofs.Common.{◌≡◌, ℕ, suc, ◌≤◌, ◌==◌, ◌&&◌, Bool, true, false, nat_lt, if◌then◌else◌, List, [], ◌∷◌, ◌++◌, length, inl, inr, refl, sym, ◌∙◌, ap, subst, arith, Some, Ok, Err}
+-- Answers that keep to what the input gives.
+use Rattle.std.proofs.Common.{◌≡◌, ℕ, suc, ◌≤◌, ◌==◌, ◌&&◌, Bool, true, false, nat_lt, if◌then◌else◌, List, [], ◌∷◌, ◌++◌, length, inl, inr, refl, sym, ◌∙◌, ap, subst, arith, Ok, Err}
 use Rattle.std.proofs.lemmas.Bool.Decides.{nat_tests}
 use Rattle.sw_words.specs.Memory.{UnlessMemory}
 use Rattle.sw_ring.specs.Cluster.{ClusterModel, IsCluster, KeepsRules, ring_of}
@@ -14,9 +14,8 @@ use Rattle.sw_play.specs.declared.playing.PlayEnd.{PlayEnd}
 use Rattle.sw_play.specs.declared.playing.PlayEnd.TheVariants as ended
 use Rattle.swift_main.specs.Answer.{IsAnswer, IsAnswerBy, IsLastLine}
 use Rattle.swift_main.specs.Input.{after_empty, before_empty, ring_text}
-use Rattle.swift_main.specs.Outcome.{EndsAs, Gives, InputGives, RingGives, ScriptGives, greatest_input, last_line, text_of}
-use Rattle.swift_main.specs.declared.command.Command.TheVariants.{Play}
-use Rattle.swift_main.specs.declared.decide.Answer.{Answer}
+use Rattle.swift_main.specs.Outcome.{EndsAs, InputGives, PlayGives, RingGives, ScriptGives, greatest_input, last_line, text_of}
+use Rattle.swift_main.specs.declared.playing.Answer.{Answer}
 use Rattle.swift_main.specs.declared.status.Status.{Status}
 use Rattle.swift_main.specs.declared.status.Status.TheVariants.{Done, Line, NoMemory, Ring, Spent}
 
@@ -93,17 +92,17 @@ rule_answers ring script fault answer is last = record {
 
 -- ---- the parts of the input
 
--- the answer by the parts is that to the command and the input
+-- the answer by the parts is that to the input
 pub input_answers : (input ring script : List ℕ) (answer : Answer) → length input ≤ greatest_input → ring ≡ before_empty true input
-    → script ≡ after_empty true input → IsAnswerBy (RingGives (ring_of (ring_text ring)) script) answer → IsAnswer (Some Play) input answer
+    → script ≡ after_empty true input → IsAnswerBy (RingGives (ring_of (ring_text ring)) script) answer → IsAnswer input answer
 input_answers input ring script answer short before after by =
     let test : nat_lt greatest_input (length input) ≡ false = grind (arith, nat_tests) in
-    let given : (status : Status) (told : List ℕ) → RingGives (ring_of (ring_text ring)) script status told → Gives (Some Play) input status told =
+    let given : (status : Status) (told : List ℕ) → RingGives (ring_of (ring_text ring)) script status told → PlayGives input status told =
     λ status told gives.
     let by_ring : RingGives (ring_of (ring_text (before_empty true input))) script status told = subst (λ r. RingGives (ring_of (ring_text r)) script status told) before gives in
     let by_parts : InputGives false input status told = subst (λ s. RingGives (ring_of (ring_text (before_empty true input))) s status told) after by_ring in
     subst (λ b. InputGives b input status told) (sym test) by_parts in
-    let is = answers_by (RingGives (ring_of (ring_text ring)) script) (Gives (Some Play) input) answer given by in record { whole = is.whole; part = is.part }
+    let is = answers_by (RingGives (ring_of (ring_text ring)) script) (PlayGives input) answer given by in record { whole = is.whole; part = is.part }
 
 -- the script is no longer than the input
 pub script_within : (starts : Bool) (input : List ℕ) → length (after_empty starts input) ≤ length input

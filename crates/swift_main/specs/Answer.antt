@@ -1,16 +1,15 @@
--- An answer of the program to a command and its whole input.
-use Rattle.std.specs.Prelude.{◌≡◌, ◌⊎◌, ℕ, List, [], Option}
+-- The answer of `play` to its whole input.
+use Rattle.std.specs.Prelude.{◌≡◌, ◌⊎◌, ℕ, List, []}
 use Rattle.sw_words.specs.Memory.{UnlessMemory}
-use Rattle.swift_main.specs.declared.command.Command.{Command}
-use Rattle.swift_main.specs.declared.decide.Answer.{Answer}
+use Rattle.swift_main.specs.declared.playing.Answer.{Answer}
 use Rattle.swift_main.specs.declared.status.Status.{Status}
 use Rattle.swift_main.specs.declared.status.Status.TheVariants.{NoMemory}
-use Rattle.swift_main.specs.Outcome.{Gives, GivesPart, text_of}
+use Rattle.swift_main.specs.Outcome.{PlayGives, text_of}
 
--- Status and text are what the command and the input give, unless memory was wanted: then the text is what is told of some first events.
-pub record IsAnswer (command : Option Command) (input : List ℕ) (answer : Answer) : Type 0 where
-  pub whole : UnlessMemory NoMemory answer.status ((told : List ℕ) × Gives command input answer.status told × (answer.text ≡ text_of answer.status told))
-  pub part : answer.status ≡ NoMemory → GivesPart command input answer.text
+-- Status and text are what the input gives, unless memory was wanted: then the text is what is told of some first events, each whole.
+pub record IsAnswer (input : List ℕ) (answer : Answer) : Type 0 where
+  pub whole : UnlessMemory NoMemory answer.status ((told : List ℕ) × PlayGives input answer.status told × (answer.text ≡ text_of answer.status told))
+  pub part : answer.status ≡ NoMemory → (answer.text ≡ []) ⊎ PlayGives input NoMemory answer.text
 
 -- the same of a part of the input, by what that gives
 pub record IsAnswerBy (gives : Status → List ℕ → Type 0) (answer : Answer) : Type 0 where

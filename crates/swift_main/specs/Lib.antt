@@ -1,5 +1,9 @@
 pub mod Answer
-pub mod Command
 pub mod Input
 pub mod Outcome
+pub mod Playing
+pub mod Reading
+pub mod Seen
+pub mod Serving
 pub mod Top
+pub mod Writing

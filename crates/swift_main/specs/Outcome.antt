@@ -1,5 +1,5 @@
--- What the program answers: its status and all that it writes, by the command that its words ask for and its whole input.
-use Rattle.std.specs.Prelude.{◌≡◌, ◌⊎◌, ℕ, nat_lt, Bool, true, false, codes, List, [], ◌∷◌, ◌++◌, length, Option, Some, None, Result, Ok, Err}
+-- The statuses of the program with their last lines, and what `play` answers by its whole input.
+use Rattle.std.specs.Prelude.{◌≡◌, ◌⊎◌, ℕ, nat_lt, Bool, true, false, codes, List, [], ◌∷◌, ◌++◌, length, Result, Ok, Err}
 use Rattle.std.specs.Fmt.{decimal}
 use Rattle.sw_ring.specs.Cluster.{ClusterModel, IsCluster, KeepsRules}
 use Rattle.sw_ring.specs.Members.{RingMembers}
@@ -10,10 +10,8 @@ use Rattle.sw_play.specs.Play.{IsRun}
 use Rattle.sw_world.specs.Scripted.{empty_script}
 use Rattle.sw_play.specs.declared.playing.PlayEnd.{PlayEnd}
 use Rattle.sw_play.specs.declared.playing.PlayEnd.TheVariants as ended
-use Rattle.swift_main.specs.declared.command.Command.{Command}
-use Rattle.swift_main.specs.declared.command.Command.TheVariants.{Play}
 use Rattle.swift_main.specs.declared.status.Status.{Status}
-use Rattle.swift_main.specs.declared.status.Status.TheVariants.{Done, Usage, Ring, Line, NoMemory, ReadFault, WriteFault, Spent, TooLong}
+use Rattle.swift_main.specs.declared.status.Status.TheVariants.{Done, Usage, Ring, Line, NoMemory, ReadFault, WriteFault, ShelfFault, DoorFault, Spent, TooLong}
 use Rattle.swift_main.specs.Input.{ring_in, script_in}
 
 -- the exit status
@@ -25,6 +23,8 @@ status_code (Line line fault) = 3
 status_code NoMemory = 4
 status_code ReadFault = 5
 status_code WriteFault = 6
+status_code ShelfFault = 7
+status_code DoorFault = 8
 status_code (Spent line) = 9
 status_code TooLong = 10
 
@@ -37,6 +37,8 @@ last_line (Line line fault) = codes "line " ++ decimal line ++ codes ": " ++ dec
 last_line NoMemory = []
 last_line ReadFault = []
 last_line WriteFault = []
+last_line ShelfFault = []
+last_line DoorFault = []
 last_line (Spent line) = codes "line " ++ decimal line ++ codes ": stamps spent" ++ 10 ∷ []
 last_line TooLong = codes "input too long" ++ 10 ∷ []
 
@@ -67,15 +69,14 @@ abbrev pub InputGives : Bool → List ℕ → Status → List ℕ → Type 0
 InputGives true input status told = (status ≡ TooLong) × (told ≡ [])
 InputGives false input status told = RingGives (ring_in input) (script_in input) status told
 
--- by the command and the input
-abbrev pub Gives : Option Command → List ℕ → Status → List ℕ → Type 0
-Gives None input status told = (status ≡ Usage) × (told ≡ [])
-Gives (Some Play) input status told = InputGives (nat_lt greatest_input (length input)) input status told
+-- `play` gives this, by its whole input
+abbrev pub PlayGives : List ℕ → Status → List ℕ → Type 0
+PlayGives input status told = InputGives (nat_lt greatest_input (length input)) input status told
+
+-- or memory was wanted before anything was told
+abbrev pub PlayTells : List ℕ → Status → List ℕ → Type 0
+PlayTells input status told = PlayGives input status told ⊎ ((status ≡ NoMemory) × (told ≡ []))
 
 -- all that is written
 abbrev pub text_of : Status → List ℕ → List ℕ
 text_of status told = told ++ last_line status
-
--- Where memory was wanted, nothing was told, or what is told of some first events of the script, each whole.
-abbrev pub GivesPart : Option Command → List ℕ → List ℕ → Type 0
-GivesPart command input told = (told ≡ []) ⊎ Gives command input NoMemory told

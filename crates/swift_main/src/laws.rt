@@ -1,19 +1,26 @@
-//! A law of answers, the contract of a function without arguments.
+//! Laws of inputs and answers, the contracts of functions without arguments.
 
-ghost use Rattle.std.specs.Prelude.{◌≡◌, ◌≢◌, ℕ, List, Option};
-ghost use Rattle.swift_main.specs.Outcome.{Gives};
-ghost use Rattle.swift_main.specs.declared.command.Command.{Command as ACommand};
+ghost use Rattle.std.specs.Prelude.{◌≡◌, ◌≢◌, ◌⊎◌, ◌<◌, ℕ, List, Some, length};
+ghost use Rattle.swift_main.specs.Outcome.{PlayGives, greatest_input};
+ghost use Rattle.swift_main.specs.Reading.{IsInput};
+ghost use Rattle.swift_main.specs.Seen.{SourceSeen};
 ghost use Rattle.swift_main.specs.declared.status.Status.{Status as AStatus};
 ghost use Rattle.swift_main.specs.declared.status.Status.TheVariants.{NoMemory};
 
 use sw_determined::cluster_law;
 use sw_play::text_law;
 
-/// A command and an input give one status and one text at most, unless memory is wanted.
+/// An input gives `play` one status and one text at most, unless memory is wanted.
 pub fn answer_law()
-    ensures { (command : Option ACommand) (input : List ℕ) (one other : AStatus) (told others : List ℕ) → Gives command input one told → Gives command input other others →
+    ensures { (input : List ℕ) (one other : AStatus) (told others : List ℕ) → PlayGives input one told → PlayGives input other others →
         one ≢ NoMemory → other ≢ NoMemory → (one ≡ other) × (told ≡ others) }
 {
     cluster_law();
     text_law();
 }
+
+/// Of a source that tells what is left to be read, all of that is the input, or both are too long.
+pub fn input_law()
+    ensures { (before after : SourceSeen) (whole input : List ℕ) → before.left ≡ Some whole → IsInput before after input →
+        (input ≡ whole) ⊎ ((greatest_input < length input) × (greatest_input < length whole)) }
+{}

@@ -2,10 +2,12 @@
 
 ghost use Rattle.std.specs.Prelude.{◌≡◌, ◌++◌, OnOk, OnErr};
 ghost use Rattle.swift_main.specs.Outcome.{last_line, status_code};
+ghost use Rattle.swift_main.specs.Serving.{status_of_end};
 
 use std::alloc::Global;
 use sw_ring::RingFault;
 use sw_script::LineFault;
+use sw_server::ServeEnd;
 use sw_types::{Bytes, NoMemory};
 
 /// How the program ends, with its exit status and its last line.
@@ -25,6 +27,10 @@ pub enum Status {
     ReadFault,
     /// 6: the output failed.
     WriteFault,
+    /// 7: the shelf failed, before `ready`.
+    ShelfFault,
+    /// 8: the doors failed.
+    DoorFault,
     /// 9, and `line L: stamps spent`: this line of the script was to draw a stamp after the last one there is.
     Spent { line: u64 },
     /// 10, and `input too long`: the input has more than 67,108,864 bytes.
@@ -44,8 +50,23 @@ impl Status {
             Status::NoMemory => 4,
             Status::ReadFault => 5,
             Status::WriteFault => 6,
+            Status::ShelfFault => 7,
+            Status::DoorFault => 8,
             Status::Spent { .. } => 9,
             Status::TooLong => 10,
+        }
+    }
+
+    /// The status of a server's end.
+    pub fn of_end(end: ServeEnd) -> Status
+        ensures { result ≡ status_of_end end }
+    {
+        match end {
+            ServeEnd::Closed { .. } => Status::Done,
+            ServeEnd::NoMemory => Status::NoMemory,
+            ServeEnd::WriteFault => Status::WriteFault,
+            ServeEnd::ShelfFault => Status::ShelfFault,
+            ServeEnd::DoorFault => Status::DoorFault,
         }
     }
 
@@ -62,7 +83,12 @@ impl Status {
             Status::Line { line, fault } => print_fault(alloc, line, fault, text),
             Status::Spent { line } => print_spent(alloc, line, text),
             Status::TooLong => text.extend_from_slice(b"input too long\n"),
-            Status::Done | Status::NoMemory | Status::ReadFault | Status::WriteFault => Ok(()),
+            Status::Done
+            | Status::NoMemory
+            | Status::ReadFault
+            | Status::WriteFault
+            | Status::ShelfFault
+            | Status::DoorFault => Ok(()),
         }
     }
 }

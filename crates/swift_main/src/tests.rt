@@ -4,22 +4,44 @@ use crate::swift_main;
 use std::alloc::{AllocError, Global};
 use std::process::Abort;
 use std::test::Fail;
-use sw_io::{MemSink, MemSource};
+use sw_io::{MemClock, MemDoors, MemSink, MemSource, OpenGate};
+use sw_memshelf::MemShelf;
 use sw_play::{GREATEST_SCRIPT, PlayEnd, play};
 use sw_ring::{Cluster, built_in};
-use sw_types::Bytes;
+use sw_types::{Bytes, Stamp};
 use sw_world::World;
 
 const USAGE: &str = "usage: play | serve PORT WORKERS | load N\n";
 
 // The words of a command line: the program's name, and these.
-fn command_line(alloc: Global, words: &[&str]) -> Result<Vec<String>, AllocError> {
+pub(crate) fn command_line(alloc: Global, words: &[&str]) -> Result<Vec<String>, AllocError> {
     let mut line = Vec::new(alloc);
     line.push(String::from_str(alloc, "swift_main")?)?;
     for word in words {
         line.push(String::from_str(alloc, word)?)?;
     }
     Ok(line)
+}
+
+// Runs the program over this source and this sink, with a shelf without faults and doors through which nobody comes.
+pub(crate) fn run(
+    alloc: Global,
+    words: &[&str],
+    source: &mut MemSource,
+    sink: &mut MemSink,
+) -> Result<u8, Fail> {
+    let line = command_line(alloc, words)?;
+    let mut doors = MemDoors::new(alloc, Vec::new(alloc))?;
+    Ok(swift_main(
+        alloc,
+        &line,
+        source,
+        sink,
+        &mut MemShelf::new(alloc),
+        &mut doors,
+        &MemClock::new(Stamp::make(100_000_000_000_000).ok_or("stamp")?),
+        &OpenGate,
+    ))
 }
 
 // Runs the program by these words on this input, and compares its status and what it writes.
@@ -31,10 +53,9 @@ fn expect_run(
     status: u8,
     text: &str,
 ) -> Result<(), Fail> {
-    let line = command_line(alloc, words)?;
     let mut source = MemSource::new(input);
     let mut sink = MemSink::new(alloc);
-    let answer = swift_main(alloc, &line, &mut source, &mut sink);
+    let answer = run(alloc, words, &mut source, &mut sink)?;
     assert_eq!(rt; sink.bytes(), text.as_bytes(), "{words:?}, to write {text}");
     assert_eq!(rt; answer, status, "{words:?}, to write {text}");
     Ok(())
@@ -331,8 +352,14 @@ fn ends_at_the_first_fault(rt: HostRuntime) -> Result<(), Fail> {
 }
 
 #[test]
-fn knows_one_command(rt: HostRuntime) -> Result<(), Fail> {
-    let cases: [&[&str]; 5] = [&[], &["serve"], &["Play"], &["play", "more"], &[""]];
+fn knows_two_commands(rt: HostRuntime) -> Result<(), Fail> {
+    let cases: [&[&str]; 5] = [
+        &[],
+        &["play", "more"],
+        &["serve", "8080"],
+        &["serve", "8080", "2"],
+        &["load", "1"],
+    ];
     for words in cases {
         let input = b"x".to_vec(rt.alloc())?;
         expect_run(&rt, rt.alloc(), words, input, 1, USAGE)?;
@@ -381,13 +408,12 @@ fn run_with_fuses(
     words: &[&str],
     reads: u64,
     writes: u64,
-) -> Result<(u8, bool), AllocError> {
-    let line = command_line(alloc, words)?;
+) -> Result<(u8, bool), Fail> {
     let mut source = MemSource::new(b"\nput a/c/o 61\nfly".to_vec(alloc)?);
     let mut sink = MemSink::new(alloc);
     source.fuse(reads);
     sink.fuse(writes);
-    let answer = swift_main(alloc, &line, &mut source, &mut sink);
+    let answer = run(alloc, words, &mut source, &mut sink)?;
     Ok((answer, !sink.bytes().is_empty()))
 }
 

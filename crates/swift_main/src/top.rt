@@ -1,93 +1,67 @@
 //! The top call.
 
-ghost use Rattle.std.specs.Prelude.{◌≡◌, ◌≢◌, ◌+◌, map, None, IfOk, IfSome, IsErrOf, IsOk, OnErr, OnOk, string_bytes};
-ghost use Rattle.std.specs.Io.KnownBytes.{Appends, Keeps};
-ghost use Rattle.sw_io.specs.Whole.{ConsumesFront};
-ghost use Rattle.sw_words.specs.Counts.{Rose};
-ghost use Rattle.sw_words.specs.Memory.{UnlessMemory};
-ghost use Rattle.swift_main.specs.Command.{command_in};
-ghost use Rattle.swift_main.specs.Outcome.{greatest_input};
-ghost use Rattle.swift_main.specs.Top.{Broke, Decided, IsAnswered, IsRead, Stopped};
+ghost use Rattle.std.specs.Prelude.{◌≡◌, ℕ, List, [], map, None, string_bytes};
+ghost use Rattle.sw_command.specs.Words.{command_in};
+ghost use Rattle.sw_ring.specs.Cluster.{ClusterModel};
+ghost use Rattle.sw_server.specs.Sessions.{IsServer};
+ghost use Rattle.sw_server.specs.declared.end.ServeEnd.{ServeEnd as AServeEnd};
+ghost use Rattle.swift_main.specs.Outcome.{status_code};
+ghost use Rattle.swift_main.specs.Top.{Does};
+ghost use Rattle.swift_main.specs.declared.status.Status.{Status as AStatus};
 
-use crate::command::Command;
-use crate::decide::{GREATEST_INPUT, decide};
+use crate::playing::play_from;
+use crate::serving::serve_from;
 use crate::status::Status;
+use crate::writing::tell;
 use std::alloc::Global;
-use sw_io::{ReadError, Sink, Source, read_up_to, write_all};
+use sw_command::{Command, read_command};
+use sw_io::{Clock, Doors, Gate, Sink, Source};
+use sw_shelf::Shelf;
+use sw_types::NoMemory;
 
-/// Runs the program: reads the whole input where the words are a command, decides by the words and the input, writes
-/// the text, and answers the exit status.
+/// Runs the program: does what the words ask for, writes the text, and answers the exit status.
 ///
-/// What a script's words and input give is a run of it from an empty world on: a story of its events, of which the text is told. Each
-/// object that is found in the story is one put's, which the run's field `found` says: an object of this name was put at this stamp
-/// before, k different indices sent its archives, and the stamp is a durable floor that an answer showed, the greatest once every
-/// device had answered or was given up. What is told to be created or deleted is kept, by its field `promised`; and operations beside
-/// which nothing steps end in full, by its field `full`.
+/// `play` reads the whole input. What its script gives is a run of it from an empty world on: a story of its events, of which the text
+/// is told. Each object that is found in the story is one put's, which the run's field `found` says: an object of this name was put at
+/// this stamp before, k different indices sent its archives, and the stamp is a durable floor that an answer showed, the greatest once
+/// every device had answered or was given up. What is told to be created or deleted is kept, by its field `promised`; and operations
+/// beside which nothing steps end in full, by its field `full`.
 ///
-/// All clauses but `whole` hold whatever source and sink tell; `whole` says `decided` again of an input that is told.
-pub fn swift_main<S: Source, O: Sink>(
+/// `serve` reads the ring, which is the whole input, and serves its cluster over a disk of the shelf for each device, until no connection
+/// comes through the doors any more. Each connection's answers are the responses to the requests in the bytes that came, over the nodes
+/// as they then stood. All disks go back, however it ends.
+///
+/// Of words that are no command the usage is written, or a front of it, and nothing is read; 1 is for these alone. Whatever source, sink, shelf and doors tell, all of
+/// this holds of what they do.
+pub fn swift_main<S: Source, O: Sink, F: Shelf, A: Doors, C: Clock, G: Gate>(
     alloc: Global,
     words: &[String],
     input: &mut S,
     output: &mut O,
+    shelf: &mut F,
+    doors: &mut A,
+    clock: &C,
+    gate: &G,
 ) -> u8
-    // Unless memory, the input or the output fails, status and text are what the words and the bytes that were read give.
-    ensures decided { UnlessMemory 4 result (result ≢ 5 → result ≢ 6 →
-        Decided (command_in (map (λ word. string_bytes word) words.now)) (S.remaining input.old) (S.remaining input.new) (O.written output.old) (O.written output.new) result) }
-
-    // Words that are no command are answered with 1, whatever the input is, and nothing else is.
-    ensures usage { command_in (map (λ word. string_bytes word) words.now) ≡ None → UnlessMemory 4 result (result ≢ 6 → result ≡ 1) × Keeps (S.remaining input.old) (S.remaining input.new) }
+    requires ports { A.ports doors.old ≡ [] }
+    requires out { F.out shelf.old ≡ 0 }
+    ensures does { (status : AStatus) × (result ≡ status_code status)
+        × Does (λ port cluster end told. IsServer (record { hands = F.hands; out = F.out; returned = F.returned; faults = F.faults; seen = F.Disk.seen; left_since = F.Disk.left_since }) C.shows
+        (record { ports = A.ports; is_open = A.is_open; handed = A.handed; back = A.back; left = A.left; faults = A.faults })
+        (record { remaining = A.Conn.remaining; written = A.Conn.written; faults = A.Conn.faults; closed = A.Conn.closed })
+        cluster clock.now port shelf.old doors.old end shelf.new doors.new told)
+        ((shelf.new ≡ shelf.old) × (doors.new ≡ doors.old))
+        (record { left = S.remaining input.old; faults = S.faults input.old }) (record { left = S.remaining input.new; faults = S.faults input.new })
+        (record { written = O.written output.old; faults = O.faults output.old }) (record { written = O.written output.new; faults = O.faults output.new })
+        (command_in (map (λ word. string_bytes word) words.now)) status }
     ensures usage_only { result ≡ 1 → command_in (map (λ word. string_bytes word) words.now) ≡ None }
-
-    // Where memory was refused, what is told of some first events is written, each whole.
-    ensures no_memory { result ≡ 4 →
-        Stopped (command_in (map (λ word. string_bytes word) words.now)) (S.remaining input.old) (S.remaining input.new) (O.written output.old) (O.written output.new) }
-
-    // A failed input or output is one whose count of faults rose. After a failed input nothing is written, and after a failed
-    // output a front of the text is.
-    ensures read_fault { result ≡ 5 → Rose (S.faults input.old) (S.faults input.new)
-        × ConsumesFront (S.remaining input.old) (S.remaining input.new) (greatest_input + 1) × Keeps (O.written output.old) (O.written output.new) }
-    ensures write_fault { result ≡ 6 → Rose (O.faults output.old) (O.faults output.new)
-        × Broke (command_in (map (λ word. string_bytes word) words.now)) (S.remaining input.old) (S.remaining input.new) (O.written output.old) (O.written output.new) }
-
-    // With any other status nothing failed: the counts of faults are what they were.
-    ensures input_quiet { result ≢ 5 → S.faults input.new ≡ S.faults input.old }
-    ensures output_quiet { result ≢ 6 → O.faults output.new ≡ O.faults output.old }
-
-    // Where the source tells its whole input, status and text are what the words and it give.
-    ensures whole { UnlessMemory 4 result (result ≢ 5 → result ≢ 6 → IfSome (S.remaining input.old) (λ whole.
-        IsAnswered (command_in (map (λ word. string_bytes word) words.now)) whole (O.written output.old) (O.written output.new) result)) }
 {
-    let command = Command::read(words);
-    match read_input(alloc, command, input) {
-        Ok(whole) => {
-            let answer = decide(alloc, command, &whole);
-            match write_all(output, answer.text.as_slice()) {
-                Ok(()) => answer.status.code(),
-                Err(_) => Status::WriteFault.code(),
-            }
+    match read_command(alloc, words) {
+        Ok(Some(Command::Play)) => play_from(alloc, input, output).code(),
+        Ok(Some(Command::Serve { port, workers: _ })) => {
+            serve_from(alloc, port, input, output, shelf, doors, clock, gate).code()
         }
-        Err(ReadError::Failed) => Status::ReadFault.code(),
-        Err(ReadError::NoMemory) => Status::NoMemory.code(),
-    }
-}
-
-// The input as far as the answer needs it: all of it, or one byte more than it may have. Words that ask for no command need
-// nothing of it.
-fn read_input<S: Source>(
-    alloc: Global,
-    command: Option<Command>,
-    input: &mut S,
-) -> Result<Vec<u8>, ReadError>
-    ensures read { IfOk result (λ bytes. IsRead command (S.remaining input.old) (S.remaining input.new) bytes.items) }
-    ensures front { OnErr result (ConsumesFront (S.remaining input.old) (S.remaining input.new) (greatest_input + 1)) }
-    ensures no_command { command ≡ None → IsOk result }
-    ensures failed { IsErrOf result ReadError.Failed → Rose (S.faults input.old) (S.faults input.new) }
-    ensures no_memory { IsErrOf result ReadError.NoMemory → S.faults input.new ≡ S.faults input.old }
-    ensures quiet { OnOk result (S.faults input.new ≡ S.faults input.old) }
-{
-    match command {
-        Some(Command::Play) => read_up_to(alloc, input, GREATEST_INPUT + 1),
-        None => Ok(Vec::new(alloc)),
+        Ok(None) => tell(alloc, output, Status::Usage).code(),
+        Err(NoMemory) => Status::NoMemory.code(),
     }
 }

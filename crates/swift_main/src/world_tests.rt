@@ -1,6 +1,6 @@
 //! Scripts whose operations run side by side, message by message.
 
-use crate::swift_main;
+use crate::tests::run as run_words;
 use std::alloc::Global;
 use std::process::Abort;
 use std::test::Fail;
@@ -8,13 +8,10 @@ use sw_io::{MemSink, MemSource};
 
 // Runs a script over the built-in ring, and answers its status and the lines that it writes.
 fn run(alloc: Global, script: &str) -> Result<(u8, Vec<u8>), Fail> {
-    let mut words = Vec::new(alloc);
-    words.push(String::from_str(alloc, "swift_main")?)?;
-    words.push(String::from_str(alloc, "play")?)?;
     let input = format!(in alloc; "\n{script}")?;
     let mut source = MemSource::new(input.as_bytes().to_vec(alloc)?);
     let mut sink = MemSink::new(alloc);
-    let status = swift_main(alloc, &words, &mut source, &mut sink);
+    let status = run_words(alloc, &["play"], &mut source, &mut sink)?;
     Ok((status, sink.bytes().to_vec(alloc)?))
 }
 

@@ -10,7 +10,7 @@ use Rattle.sw_shelf.specs.declared.fault.ShelfFault.TheVariants.{Failed, NoMemor
 use Rattle.sw_objsrv.specs.Node.{NodeModel}
 use Rattle.sw_objsrv.specs.declared.node.Node.{Node}
 use Rattle.sw_shelf.specs.Shelf.{with_all}
-use Rattle.sw_direct.specs.Mounted.{disks_of}
+use Rattle.sw_direct.specs.Mounted.{AreMounted, IsOfFirst, disks_of}
 use Rattle.sw_direct.proofs.HandingBack.{all_in_turn, is_of_first, none_back, one_of}
 use Rattle.sw_direct.proofs.Takings.{AreSoFar, as_many, ids_are, is_member, no_fault, none_yet, one_further, rises}
 use Rattle.sw_direct.proofs.mounting.mount_all.Given.{Over}
@@ -113,23 +113,29 @@ returns-clause-returned g c = c.each.invariant.returned
 pub returns-clause-quiet : goal.returns-clause-quiet
 returns-clause-quiet g c = c.each.invariant.faults
 
+-- so many devices, of those that are listed
+of_devices : (g : Over) (cluster : ClusterModel) (items : List Device) (place : ℕ) (nodes : Items g) → items ≡ cluster.devices → length nodes ≡ place → AreSoFar g.F.Disk.Disk.seen g.F.Disk.Disk.left_since g.F.Shelf.hands cluster (take place items) nodes
+    → AreMounted g.F.Disk.Disk.seen g.F.Disk.Disk.left_since g.F.Shelf.hands cluster (take (length nodes) cluster.devices) nodes
+of_devices g cluster items place nodes listed so_many are = rw so_many (subst (λ (devices : List Device). AreMounted g.F.Disk.Disk.seen g.F.Disk.Disk.left_since g.F.Shelf.hands cluster (take place devices) nodes) listed are.mounted)
+
 pub returns-in-Err-clause-came_back : goal.returns-in-Err-clause-came_back
 returns-in-Err-clause-came_back g c =
     let items = c.devices-device-items.result.now in
-    let device = get_or items c.each.device-index nowhere in
-    let ids = ids_are g.F.Disk.Disk.seen g.F.Disk.Disk.left_since g.F.Shelf.hands c.args.cluster.now (take c.each.device-index items) c.each.nodes.items c.each.invariant.so_far.mounted in
+    let place = c.each.device-index in
+    let device = get_or items place nowhere in
+    let listed = c.devices-device-items.ensures.listed in
+    let failed = c.in-Err.ensures.came_back.0 in
+    let so_many = count g c.args.cluster.now items place c.each.nodes.items (omega arith) c.each.invariant.so_far in
+    let next = is_of_first g.F.Disk.Disk.seen g.F.Disk.Disk.left_since g.F.Shelf.hands c.args.cluster.now device (drop (place + 1) items) failed c.in-Err.ensures.came_back.1 in
     record {
       nodes = c.each.nodes.items;
-      others = device.id ∷ device_ids (drop (c.each.device-index + 1) items);
-      first = ap (λ (front : List ℕ). front ++ device_ids (get_or items c.each.device-index nowhere ∷ drop (c.each.device-index + 1) items)) ids
-          ∙ ap (λ (rest : List Device). device_ids (take c.each.device-index items) ++ device_ids rest) (sym (drop_more items c.each.device-index nowhere c.each-test.true))
-          ∙ sym (map-append (λ (one : Device). one.id) (take c.each.device-index items) (drop c.each.device-index items))
-          ∙ ap device_ids (take-append-drop c.each.device-index items ∙ c.devices-device-items.ensures.listed);
-      failed = one_of device.id c.in-Err.ensures.came_back.0;
-      of_first = is_of_first device.id (device_ids (drop (c.each.device-index + 1) items)) c.in-Err.ensures.came_back.0;
-      back = c.hand_back_first.ensures.back ∙ ap (λ (returned : Option (List (ℕ × g.row.F-Disk.Denot))). with_all returned (disks_of c.each.nodes.items)) c.in-Err.ensures.came_back.1
-          ∙ all_in_turn _ _ _ ∙ ap (λ (returned : Option (List (ℕ × g.row.F-Disk.Denot))). with_all returned (one_of device.id c.in-Err.ensures.came_back.0 ++ disks_of c.each.nodes.items)) c.each.invariant.returned;
+      mounted = of_devices g c.args.cluster.now items place c.each.nodes.items listed so_many c.each.invariant.so_far;
+      failed = one_of device.id failed;
+      of_first = rw so_many (subst (λ (devices : List Device). IsOfFirst g.F.Disk.Disk.seen g.F.Disk.Disk.left_since g.F.Shelf.hands c.args.cluster.now devices (one_of device.id failed))
+          (sym (drop_more items place nowhere c.each-test.true) ∙ ap (drop place) listed) next);
+      back = c.hand_back_first.ensures.back ∙ ap (λ (returned : Option (List (ℕ × g.row.F-Disk.Denot))). with_all returned (disks_of c.each.nodes.items)) c.in-Err.ensures.came_back.2
+          ∙ all_in_turn _ _ _ ∙ ap (λ (returned : Option (List (ℕ × g.row.F-Disk.Denot))). with_all returned (one_of device.id failed ++ disks_of c.each.nodes.items)) c.each.invariant.returned;
     }
 
 pub returns-in_default-clause-came_back : goal.returns-in_default-clause-came_back
-returns-in_default-clause-came_back g c = record { nodes = []; others = ids_of c.args.cluster.now; first = refl; failed = []; of_first = tt; back = none_back (g.F.Shelf.returned c.args.shelf.now) }
+returns-in_default-clause-came_back g c = record { nodes = []; mounted = tt; failed = []; of_first = tt; back = none_back (g.F.Shelf.returned c.args.shelf.now) }

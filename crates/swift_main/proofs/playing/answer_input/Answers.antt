@@ -2,7 +2,7 @@ use Rattle.std.proofs.Common.{◌≡◌, ◌≤◌, true, length, subst, sym, ar
 use Rattle.sw_ring.specs.Cluster.{ring_of}
 use Rattle.swift_main.specs.Input.{ring_text}
 use Rattle.swift_main.proofs.Outcomes.{input_answers, rule_answers, script_within}
-use Rattle.swift_main.proofs.decide.play_input.Goals as goal
+use Rattle.swift_main.proofs.playing.answer_input.Goals as goal
 
 pub run_input-requires : goal.run_input-requires
 run_input-requires c = subst (λ script. length script ≤ 67108864) (sym c.at_empty_line.ensures.after) (omega (arith, script_within true c.args.input.now))

@@ -2,7 +2,7 @@ use Rattle.std.proofs.Common.{sym, subst}
 use Rattle.sw_ring.specs.Cluster.{ClusterModel}
 use Rattle.sw_world.specs.Scripted.{empty_script}
 use Rattle.sw_world.specs.Standing.{StandsFor}
-use Rattle.swift_main.proofs.decide.run_input.Goals as goal
+use Rattle.swift_main.proofs.playing.run_input.Goals as goal
 use Rattle.swift_main.proofs.Outcomes.{ring_answers}
 
 -- the world stands for the empty one of its cluster, which is that of the ring

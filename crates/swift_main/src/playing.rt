@@ -1,6 +1,6 @@
-//! What the program answers, by its command and its whole input.
+//! `play`: scripts are run over nodes in memory.
 
-ghost use Rattle.std.specs.Prelude.{◌≡◌, ◌≤◌, ◌++◌, Err, IfErr, IfOk, Some, length};
+ghost use Rattle.std.specs.Prelude.{◌≡◌, ◌≤◌, ◌++◌, Err, IfErr, IfOk, length};
 ghost use Rattle.sw_words.specs.Memory.{UnlessMemory};
 ghost use Rattle.sw_play.specs.Play.{greatest_script};
 ghost use Rattle.sw_world.specs.Standing.{StandsFor};
@@ -9,18 +9,17 @@ ghost use Rattle.sw_ring.specs.Cluster.{ring_of};
 ghost use Rattle.swift_main.specs.Answer.{IsAnswer, IsAnswerBy, IsLastLine};
 ghost use Rattle.swift_main.specs.Input.{ring_text};
 ghost use Rattle.swift_main.specs.Outcome.{RingGives, ScriptGives, last_line};
+ghost use Rattle.swift_main.specs.Playing.{Plays};
 
-use crate::command::Command;
-use crate::input::{at_empty_line, read_ring};
+use crate::input::{GREATEST_INPUT, at_empty_line, read_input, read_ring};
 use crate::status::Status;
+use crate::writing::write_text;
 use std::alloc::Global;
-use sw_play::{GREATEST_SCRIPT, PlayEnd, play};
+use sw_io::{Sink, Source};
+use sw_play::{PlayEnd, play};
 use sw_ring::RingFault;
 use sw_types::{Bytes, NoMemory};
 use sw_world::World;
-
-/// The greatest number of bytes of the input: its script may be as long.
-pub const GREATEST_INPUT: usize = GREATEST_SCRIPT;
 
 /// A status and all that is to be written.
 #[derive(Debug, Drop)]
@@ -29,20 +28,23 @@ pub struct Answer {
     pub text: Bytes,
 }
 
-/// The answer to the command that the words ask for, if they ask for one, and the input. Where memory was refused, the text is what
-/// is told of some first events, each whole.
-pub fn decide(alloc: Global, command: Option<Command>, input: &[u8]) -> Answer
-    ensures { IsAnswer command input.now result }
+/// Plays: reads the whole input, runs its script over the nodes of its ring, and writes what is told.
+pub(crate) fn play_from<S: Source, O: Sink>(alloc: Global, input: &mut S, output: &mut O) -> Status
+    ensures { Plays (record { left = S.remaining input.old; faults = S.faults input.old }) (record { left = S.remaining input.new; faults = S.faults input.new })
+        (record { written = O.written output.old; faults = O.faults output.old }) (record { written = O.written output.new; faults = O.faults output.new }) result }
 {
-    match command {
-        Some(Command::Play) => play_input(alloc, input),
-        None => last_line_alone(alloc, Status::Usage),
+    match read_input(alloc, input) {
+        Ok(whole) => {
+            let answer = answer_input(alloc, &whole);
+            write_text(output, answer.status, answer.text.as_slice())
+        }
+        Err(status) => status,
     }
 }
 
-// The answer to `play` and the input.
-fn play_input(alloc: Global, input: &[u8]) -> Answer
-    ensures { IsAnswer (Some Command.Play) input.now result }
+// The answer to a whole input. Where memory was refused, its text is what is told of some first events, each whole.
+fn answer_input(alloc: Global, input: &[u8]) -> Answer
+    ensures { IsAnswer input.now result }
 {
     if input.len() > GREATEST_INPUT {
         return last_line_alone(alloc, Status::TooLong);

@@ -1,7 +1,7 @@
 use Rattle.sw_world.specs.Scripted.{empty_script}
 use Rattle.sw_play.specs.declared.playing.PlayEnd.TheVariants as ended
 use Rattle.swift_main.proofs.Outcomes.{script_answers}
-use Rattle.swift_main.proofs.decide.run_script.Goals as goal
+use Rattle.swift_main.proofs.playing.run_script.Goals as goal
 
 pub returns-in-Done : goal.returns-in-Done
 returns-in-Done c stands =

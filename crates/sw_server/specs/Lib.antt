@@ -1,0 +1,5 @@
+pub mod Closing
+pub mod Passes
+pub mod Sessions
+pub mod Stops
+pub mod Visits
