@@ -3,12 +3,12 @@ use Rattle.std.proofs.Common.{◌≡◌, ℕ, Bool, true, false, Contains, List,
 use Rattle.sw_diskfile.proofs.Lists.{Contains-none}
 use Rattle.sw_ring.specs.Cluster.{ClusterModel, KeepsRules}
 use Rattle.sw_message.specs.declared.sent.Sent.{Sent}
-use Rattle.sw_scene.specs.Moves.{Crashes, CrashesMounting, Fails, Handles, Restarts, lost, stopped}
-use Rattle.sw_scene.specs.Scene.{Answer, Mail, Request, Scene, is_up}
-use Rattle.sw_scene.specs.Sound.{IsSoundScene}
-use Rattle.sw_scene.proofs.DeviceMoves.{crashes-sound, crashes_mounting-sound, fails-sound, handles-sound, lost-sound, restarts-sound, stopped-sound}
-use Rattle.sw_scene.proofs.Growth.{Follows, crashes-follows, crashes_mounting-follows, fails-follows, handles-follows, lost-follows, restarts-follows, stopped-follows}
-use Rattle.sw_scene.proofs.Sounds.{empty-sound}
+use Rattle.sw_law_scene.specs.Moves.{Crashes, CrashesMounting, Fails, Handles, Restarts, lost, stopped}
+use Rattle.sw_law_scene.specs.Scene.{Answer, Message, Request, Scene, is_up}
+use Rattle.sw_law_scene.specs.Sound.{IsSoundScene}
+use Rattle.sw_law_scene.proofs.DeviceMoves.{crashes-sound, crashes_mounting-sound, fails-sound, handles-sound, lost-sound, restarts-sound, stopped-sound}
+use Rattle.sw_law_scene.proofs.Growth.{Follows, crashes-follows, crashes_mounting-follows, fails-follows, handles-follows, lost-follows, restarts-follows, stopped-follows}
+use Rattle.sw_law_scene.proofs.Sounds.{empty-sound}
 use Rattle.sw_core.specs.Event.{Comes, Crash, CrashMount, Deliver, Event, Fault, GiveUp, Happens, IsRun, Lead, Lose, OnRequest, OnScene, Restart, SetClock, Start, Stop, idle}
 use Rattle.sw_core.specs.Sound.{IsSoundWorld}
 use Rattle.sw_core.specs.World.{World, empty_world, numbered}
@@ -33,7 +33,7 @@ module _ (cluster : ClusterModel) (world : World) (sound : IsSoundWorld cluster 
   -- ---- messages
 
   abbrev IsRequest : ℕ → Sent → Type 0
-  IsRequest operation sent = (at : ℕ) × Contains world.scene.mail (Request at operation sent)
+  IsRequest operation sent = (at : ℕ) × Contains world.scene.messages (Request at operation sent)
 
   handling : (operation : ℕ) (sent : Sent) → IsRequest operation sent → IsHarmless world.scene (Handles world.scene operation sent)
   handling operation sent (at, has) after done = (handles-follows world.scene operation sent after done, handles-sound world.scene sound.scene at operation sent has after done)
@@ -45,19 +45,19 @@ module _ (cluster : ClusterModel) (world : World) (sound : IsSoundWorld cluster 
   crashing operation sent (at, has) after done = (crashes-follows world.scene sent after done, crashes-sound world.scene sound.scene at operation sent has after done)
 
   on_request-sound : (does : ℕ → Sent → Scene → Type 0) → ((operation : ℕ) (sent : Sent) → IsRequest operation sent → IsHarmless world.scene (does operation sent))
-      → (after : World) (message : ℕ) (mail : Option Mail) → numbered world.scene.mail message ≡ mail → OnRequest mail does world after → IsSoundWorld cluster after
+      → (after : World) (message : ℕ) (posted : Option Message) → numbered world.scene.messages message ≡ posted → OnRequest posted does world after → IsSoundWorld cluster after
   on_request-sound does harmless after message None is same = idles after same
   on_request-sound does harmless after message (Some (Answer at operation sent reply)) is same = idles after same
   on_request-sound does harmless after message (Some (Request at operation sent)) is done =
-      on_scene-sound (does operation sent) (harmless operation sent (at, numbered-contains world.scene.mail message (Request at operation sent) is)) after (is_up world.scene sent.device) done
+      on_scene-sound (does operation sent) (harmless operation sent (at, numbered-contains world.scene.messages message (Request at operation sent) is)) after (is_up world.scene sent.device) done
 
-  comes-sound : (after : World) (message : ℕ) (mail : Option Mail) → numbered world.scene.mail message ≡ mail → Comes mail world after → IsSoundWorld cluster after
+  comes-sound : (after : World) (message : ℕ) (posted : Option Message) → numbered world.scene.messages message ≡ posted → Comes posted world after → IsSoundWorld cluster after
   comes-sound after message None is same = idles after same
   comes-sound after message (Some (Request at operation sent)) is done =
-      on_scene-sound (Handles world.scene operation sent) (handling operation sent (at, numbered-contains world.scene.mail message (Request at operation sent) is)) after (is_up world.scene sent.device) done
+      on_scene-sound (Handles world.scene operation sent) (handling operation sent (at, numbered-contains world.scene.messages message (Request at operation sent) is)) after (is_up world.scene sent.device) done
   comes-sound after message (Some (Answer at number sent reply)) is goes =
       told-sound cluster world sound number sent.ticket (Some reply)
-      (λ operation there. answered-stands world.scene number operation (sound.operations number operation there) sound.scene at sent reply (numbered-contains world.scene.mail message (Answer at number sent reply) is))
+      (λ operation there. answered-stands world.scene number operation (sound.operations number operation there) sound.scene at sent reply (numbered-contains world.scene.messages message (Answer at number sent reply) is))
       after (numbered world.operations number) refl goes
 
   clock-sound : (stamp : ℕ) → IsSoundWorld cluster (record (idle world) { clock = stamp })
@@ -69,9 +69,9 @@ module _ (cluster : ClusterModel) (world : World) (sound : IsSoundWorld cluster 
 
   happens-sound : (event : Event) (after : World) → Happens event world after → IsSoundWorld cluster after
   happens-sound (Start job) after goes = starts-sound cluster world sound job after goes
-  happens-sound (Deliver message) after goes = comes-sound after message (numbered world.scene.mail message) refl goes
-  happens-sound (Crash message) after goes = on_request-sound (λ operation sent. Crashes world.scene sent) crashing after message (numbered world.scene.mail message) refl goes
-  happens-sound (Fault message) after goes = on_request-sound (λ operation sent. Fails world.scene operation sent) failing after message (numbered world.scene.mail message) refl goes
+  happens-sound (Deliver message) after goes = comes-sound after message (numbered world.scene.messages message) refl goes
+  happens-sound (Crash message) after goes = on_request-sound (λ operation sent. Crashes world.scene sent) crashing after message (numbered world.scene.messages message) refl goes
+  happens-sound (Fault message) after goes = on_request-sound (λ operation sent. Fails world.scene operation sent) failing after message (numbered world.scene.messages message) refl goes
   happens-sound (CrashMount device) after goes =
       on_scene-sound (CrashesMounting world.scene device) (λ scene done. (crashes_mounting-follows world.scene device scene done, crashes_mounting-sound world.scene sound.scene device scene done)) after _ goes
   happens-sound (Stop device) after goes =

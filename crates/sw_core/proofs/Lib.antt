@@ -1,11 +1,16 @@
+pub mod Carried
 pub mod Handing
+pub mod Happened
 pub mod Happening
 pub mod Jobs
+pub mod Leads
 pub mod Machines
+pub mod Next
 pub mod Numbered
 pub mod Operations
 pub mod Proceeding
 pub mod Runs
+pub mod SceneMoves
 pub mod Starting
 pub mod Telling
 pub mod Transcripts

@@ -12,7 +12,7 @@ use Rattle.sw_recon.specs.declared.status.Status.{Status}
 use Rattle.sw_recon.specs.declared.status.Status.TheVariants.{Ends, Starts, Treats}
 use Rattle.sw_recon.proofs.Machine as revert_machine
 use Rattle.sw_sync.proofs.Messages as sync_messages
-use Rattle.sw_core.specs.Operating.{Begun, Delete, Get, Head, IsBegun, IsNext, Put, Revert, Sync, cluster_of, own_of}
+use Rattle.sw_operation.specs.Operating.{Begun, Delete, Get, Head, IsBegun, IsNext, Put, Revert, Sync, cluster_of, own_of}
 use Rattle.sw_core.proofs.Jobs.{revert-hands, sync-hands}
 use Rattle.sw_core.proofs.Operations.{delete-hands, get-hands, put-hands}
 use Rattle.sw_core.proofs.Warranting.{HandsWarranted}

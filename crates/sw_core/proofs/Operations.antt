@@ -8,7 +8,7 @@ use Rattle.sw_message.specs.Transcript.{Hand, Over}
 use Rattle.sw_message.specs.Warrant.{IsWarranted}
 use Rattle.sw_message.specs.declared.sent.Sent.{Sent}
 use Rattle.sw_message.specs.declared.target.Target.{Target}
-use Rattle.sw_quorum.specs.Places.{place_right}
+use Rattle.sw_quorum.proofs.Places.{place_right}
 use Rattle.sw_delete.specs.Delete as deletes
 use Rattle.sw_delete.proofs.Devices as delete_devices
 use Rattle.sw_delete.proofs.Transcripts as delete_transcripts

@@ -6,21 +6,21 @@ use Rattle.sw_ring.specs.Cluster.{ClusterModel}
 use Rattle.sw_message.specs.Learnt.{AreKnown}
 use Rattle.sw_message.specs.Transcript.{Step}
 use Rattle.sw_message.specs.declared.sent.Sent.{Sent}
-use Rattle.sw_scene.specs.Moves.{requests_of, sends}
-use Rattle.sw_scene.specs.Scene.{Request, Scene, known_to}
-use Rattle.sw_scene.specs.Sound.{IsSoundScene, MayBeSent}
-use Rattle.sw_scene.proofs.Growth.{Follows, Grows, sends-grows}
-use Rattle.sw_scene.proofs.Knowledge.{own_kept}
-use Rattle.sw_scene.proofs.Sounds.{sends-sound}
+use Rattle.sw_law_scene.specs.Moves.{requests_of, sends}
+use Rattle.sw_law_scene.specs.Scene.{Request, Scene, known_to}
+use Rattle.sw_law_scene.specs.Sound.{IsSoundScene, MayBeSent}
+use Rattle.sw_law_scene.proofs.Growth.{Follows, Grows, sends-grows}
+use Rattle.sw_law_scene.proofs.Knowledge.{own_kept}
+use Rattle.sw_law_scene.proofs.Sounds.{sends-sound}
 use Rattle.sw_core.specs.Event.{Proceeds, with_scene}
-use Rattle.sw_core.specs.Operating.{cluster_of, own_of}
+use Rattle.sw_operation.specs.Operating.{cluster_of, own_of}
 use Rattle.sw_core.specs.Sound.{IsSoundWorld, Stands}
 use Rattle.sw_core.specs.World.{Operating, World, numbered}
 use Rattle.sw_core.proofs.Handing.{AreHandedOut, handed-out, replies-known}
 use Rattle.sw_core.proofs.Numbered.{numbered-within, replaced-cases, replaced-length}
 
 -- an operation stands on in a scene where no request of its number was made
-pub stands-on : (before after : Scene) → Grows before after → (number : ℕ) (operation : Operating) → ((at : ℕ) (sent : Sent) → Contains after.mail (Request at number sent) → Contains before.mail (Request at number sent))
+pub stands-on : (before after : Scene) → Grows before after → (number : ℕ) (operation : Operating) → ((at : ℕ) (sent : Sent) → Contains after.messages (Request at number sent) → Contains before.messages (Request at number sent))
     → Stands before number operation → Stands after number operation
 stands-on before after grows number operation none_new stands = record {
   valid = stands.valid;
@@ -28,7 +28,7 @@ stands-on before after grows number operation none_new stands = record {
   started = omega (arith, stands.started, grows.now);
   own = own_kept _ _ grows.known (own_of operation.begun) stands.own;
   run = stands.run;
-  told = λ sent reply has. let was = stands.told sent reply has in (was.0, was.1, grows.mail _ was.2);
+  told = λ sent reply has. let was = stands.told sent reply has in (was.0, was.1, grows.messages _ was.2);
   requests = λ at sent has. stands.requests at sent (none_new at sent has);
 }
 
@@ -53,15 +53,15 @@ module _ (cluster : ClusterModel) (world : World) (sound : IsSoundWorld cluster 
     abbrev scene_after : List Sent → Scene
     scene_after sents = sends number sents world.scene
 
-    request-cases : (sents : List Sent) (at other : ℕ) (sent : Sent) → Contains (scene_after sents).mail (Request at other sent)
-        → Contains world.scene.mail (Request at other sent) ⊎ ((world.scene.now ≡ at) × (number ≡ other) × Contains sents sent)
+    request-cases : (sents : List Sent) (at other : ℕ) (sent : Sent) → Contains (scene_after sents).messages (Request at other sent)
+        → Contains world.scene.messages (Request at other sent) ⊎ ((world.scene.now ≡ at) × (number ≡ other) × Contains sents sent)
     request-cases sents at other sent has = ⊎_elim
         (λ old. inl old)
         (λ new.
         let from = mapped (λ (one : Sent). Request world.scene.now number one) sents (Request at other sent) new in
         let same : from.0 ≡ sent = cc in
         inr (cc, cc, subst (Contains sents) same from.1))
-        (Contains-append_cases world.scene.mail (requests_of world.scene.now number sents) (Request at other sent) has)
+        (Contains-append_cases world.scene.messages (requests_of world.scene.now number sents) (Request at other sent) has)
 
     module _ (sents : List Sent) (later : Operating) (out : AreHandedOut operation.begun (known_to world.scene) past sents later.past) where
       stands-later : Stands (scene_after sents) number (record operation { past = later.past; is_over = later.is_over })
@@ -73,7 +73,7 @@ module _ (cluster : ClusterModel) (world : World) (sound : IsSoundWorld cluster 
             started = omega (arith, stands.started, grows.now);
             own = own_kept _ _ grows.known (own_of operation.begun) stands.own;
             run = out.run;
-            told = λ sent reply has. let was = stands.told sent reply (out.told sent (Some reply) has) in (was.0, was.1, grows.mail _ was.2);
+            told = λ sent reply has. let was = stands.told sent reply (out.told sent (Some reply) has) in (was.0, was.1, grows.messages _ was.2);
             requests = λ at sent has. ⊎_elim
                 (λ old. let was = stands.requests at sent old in (was.0, out.kept sent was.1))
                 (λ new. (omega (arith, stands.started, new.0), out.handed sent new.2))

@@ -4,7 +4,7 @@ use Rattle.sw_types.specs.Object.{ObjectModel}
 use Rattle.sw_ring.specs.Cluster.{ClusterModel}
 use Rattle.sw_message.specs.Learnt.{AreKnown, IsSoundBook, Learnt}
 use Rattle.sw_message.specs.Step.{Folders}
-use Rattle.sw_message.specs.Transcript.{IsRun as IsRunOf, Step, Told}
+use Rattle.sw_message.specs.Transcript.{Closed, IsRun as IsRunOf, Step}
 use Rattle.sw_message.specs.declared.reply.Reply.{Reply}
 use Rattle.sw_message.specs.declared.sent.Sent.{Sent}
 use Rattle.sw_message.specs.declared.target.Target.{Target}
@@ -12,21 +12,21 @@ use Rattle.sw_get.specs.Causes.{IsPutFound}
 use Rattle.sw_get.specs.Get as gets
 use Rattle.sw_get.specs.declared.end.GetEnd.TheVariants.{Found}
 use Rattle.sw_get.proofs.Founds.{found_put}
-use Rattle.sw_scene.specs.Disks.{IsSide}
-use Rattle.sw_scene.specs.Filed.{AreFiled, FoldersFiled}
-use Rattle.sw_scene.specs.Scene.{Answer, Request, disk_of, known_to}
-use Rattle.sw_scene.specs.Sound.{MayBeSent}
+use Rattle.sw_law_scene.specs.Disks.{IsSide}
+use Rattle.sw_law_scene.specs.Filed.{AreFiled, FoldersFiled}
+use Rattle.sw_law_scene.specs.Scene.{Answer, Request, disk_of, known_to}
+use Rattle.sw_law_scene.specs.Sound.{MayBeSent}
 use Rattle.sw_core.specs.Event.{Event, IsRun}
-use Rattle.sw_core.specs.Operating.{Begun, Get, Head, IsBegun, IsGetOf, IsNext, cluster_of}
+use Rattle.sw_operation.specs.Operating.{Begun, Get, Head, IsBegun, IsGetOf, IsNext, cluster_of}
 use Rattle.sw_core.specs.World.{Operating, World, numbered}
 use Rattle.sw_core.proofs.Happening.{run-sound}
 use Rattle.sw_core.proofs.Proceeding.{stands-known}
 
-pub warranted : (cluster : ClusterModel) (events : List Event) (world : World) → IsRun cluster events world → (at number : ℕ) (sent : Sent) → Contains world.scene.mail (Request at number sent)
+pub warranted : (cluster : ClusterModel) (events : List Event) (world : World) → IsRun cluster events world → (at number : ℕ) (sent : Sent) → Contains world.scene.messages (Request at number sent)
     → MayBeSent cluster (known_to world.scene) sent.msg
 warranted cluster events world run at number sent has =
     let sound = run-sound cluster events world run in
-    subst (λ (one : ClusterModel). MayBeSent one (known_to world.scene) sent.msg) sound.same_cluster (sound.scene.mail (Request at number sent) has)
+    subst (λ (one : ClusterModel). MayBeSent one (known_to world.scene) sent.msg) sound.same_cluster (sound.scene.messages (Request at number sent) has)
 
 pub filed : (cluster : ClusterModel) (events : List Event) (world : World) → IsRun cluster events world → (side : ℕ → Folders) → ((device : ℕ) → IsSide (disk_of world.scene device) (side device))
     → AreFiled cluster (known_to world.scene).book side
@@ -35,7 +35,7 @@ filed cluster events world run side are = λ device.
     subst (λ (one : ClusterModel). FoldersFiled one (known_to world.scene).book (side device)) sound.same_cluster (sound.scene.filed device (side device) (are device))
 
 pub told : (cluster : ClusterModel) (events : List Event) (world : World) (number : ℕ) (operation : Operating) (sent : Sent) (reply : Reply) → IsRun cluster events world → numbered world.operations number ≡ Some operation
-    → Contains operation.past (Told sent (Some reply)) → (at : ℕ) × (operation.start ≤ at) × Contains world.scene.mail (Answer at number sent reply)
+    → Contains operation.past (Closed sent (Some reply)) → (at : ℕ) × (operation.start ≤ at) × Contains world.scene.messages (Answer at number sent reply)
 told cluster events world number operation sent reply run is has = ((run-sound cluster events world run).operations number operation is).told sent reply has
 
 -- ---- what a get finds

@@ -7,14 +7,14 @@ use Rattle.sw_diskfile.proofs.Lists.{Contains-map, Contains-none}
 use Rattle.sw_ring.specs.Cluster.{ClusterModel, place_of_name}
 use Rattle.sw_message.specs.Learnt.{HasOwn}
 use Rattle.sw_message.specs.Message.{IsMember, is_primary}
-use Rattle.sw_quorum.specs.Places.{place_right}
-use Rattle.sw_scene.specs.Moves.{books, marks}
-use Rattle.sw_scene.specs.Scene.{Scene, StartedDelete, StartedPut, known_to}
-use Rattle.sw_scene.specs.Sound.{IsSoundScene}
-use Rattle.sw_scene.proofs.Growth.{Follows, books-follows, marks-follows, same-follows}
-use Rattle.sw_scene.proofs.Sounds.{books-sound, marks-sound}
-use Rattle.sw_core.specs.Event.{Begins, Delete, Get, Head, Job, Put, Recon, Starts, begins, recon_of, stamp_in}
-use Rattle.sw_core.specs.Operating.{Begun, Delete as DeleteBegun, Get as GetBegun, Head as HeadBegun, IsBegun, Put as PutBegun, cluster_of, own_of}
+use Rattle.sw_quorum.proofs.Places.{place_right}
+use Rattle.sw_law_scene.specs.Moves.{books, marks}
+use Rattle.sw_law_scene.specs.Scene.{Scene, StartedDelete, StartedPut, known_to}
+use Rattle.sw_law_scene.specs.Sound.{IsSoundScene}
+use Rattle.sw_law_scene.proofs.Growth.{Follows, books-follows, marks-follows, same-follows}
+use Rattle.sw_law_scene.proofs.Sounds.{books-sound, marks-sound}
+use Rattle.sw_core.specs.Event.{Begins, Delete, Get, Head, Job, Put, Recon, Starts, begins, stamp_in}
+use Rattle.sw_operation.specs.Operating.{Begun, Delete as DeleteBegun, Get as GetBegun, Head as HeadBegun, IsBegun, Put as PutBegun, cluster_of, own_of, recon_of}
 use Rattle.sw_core.specs.Sound.{IsSoundWorld, Stands}
 use Rattle.sw_core.specs.World.{World}
 use Rattle.sw_core.proofs.Numbered.{pushed-cases, pushed-last}

@@ -4,7 +4,7 @@ use Rattle.sw_ring.specs.Cluster.{ClusterModel}
 use Rattle.sw_message.specs.Learnt.{AreKnown, Learnt}
 use Rattle.sw_message.specs.Transcript.{Hand, IsRun, Next, Step}
 use Rattle.sw_message.specs.declared.sent.Sent.{Sent}
-use Rattle.sw_scene.specs.Sound.{MayBeSent}
+use Rattle.sw_law_scene.specs.Sound.{MayBeSent}
 
 -- each message that the machine hands out is about a right place and is warranted, where its replies so far are known
 abbrev pub HandsWarranted : ClusterModel → (List Step → Next → Type 0) → Learnt → Type 0

@@ -7,12 +7,12 @@ use Rattle.sw_archive.specs.Put.{IsPut}
 use Rattle.sw_ring.specs.Cluster.{ClusterModel, KeepsRules, ids_of, place_of_name}
 use Rattle.sw_ring.specs.Ring.{is_among}
 use Rattle.sw_message.specs.Message.{IsMember, is_primary}
-use Rattle.sw_message.specs.Transcript.{Step, told}
+use Rattle.sw_message.specs.Transcript.{Step, after_answer}
 use Rattle.sw_message.specs.declared.reply.Reply.{Reply}
 use Rattle.sw_message.specs.declared.sent.Sent.{Sent}
-use Rattle.sw_scene.specs.Moves.{Crashes, CrashesMounting, Fails, Handles, Restarts, books, lost, marks, next_stamp, sends, stopped, ticked}
-use Rattle.sw_scene.specs.Scene.{Answer, Mail, Request, Scene, is_down, is_up}
-use Rattle.sw_core.specs.Operating.{Begun, Delete as DeleteBegun, Get as GetBegun, Head as HeadBegun, Put as PutBegun, Revert, Sync}
+use Rattle.sw_law_scene.specs.Moves.{Crashes, CrashesMounting, Fails, Handles, Restarts, books, lost, marks, next_stamp, sends, stopped, ticked}
+use Rattle.sw_law_scene.specs.Scene.{Answer, Message, Request, Scene, is_down, is_up}
+use Rattle.sw_operation.specs.Operating.{Begun, Delete as DeleteBegun, Get as GetBegun, Head as HeadBegun, Put as PutBegun, recon_of}
 use Rattle.sw_core.specs.World.{GoesOn, Operating, World, empty_world, numbered, with_numbered}
 
 -- what is started
@@ -55,7 +55,7 @@ OnScene true does before after = (scene : Scene) × does scene × (after ≡ wit
 OnScene false does before after = after ≡ idle before
 
 -- something happens to a request, at its device if that is up
-abbrev pub OnRequest : Option Mail → (ℕ → Sent → Scene → Type 0) → (before after : World) → Type 0
+abbrev pub OnRequest : Option Message → (ℕ → Sent → Scene → Type 0) → (before after : World) → Type 0
 OnRequest None does before after = after ≡ idle before
 OnRequest (Some (Answer at operation sent reply)) does before after = after ≡ idle before
 OnRequest (Some (Request at operation sent)) does before after = OnScene (is_up before.scene sent.device) (does operation sent) before after
@@ -70,16 +70,16 @@ pub record Proceeds (before : World) (number : ℕ) (operation : Operating) (pas
   pub after_is : after ≡ record before { scene = sends number sents before.scene; operations = with_numbered number later before.operations }
 
 -- An answer comes for a ticket of an operation, or it is given up. One that is over takes none.
-abbrev pub IsTold : Option Operating → (number ticket : ℕ) → Option Reply → (before after : World) → Type 0
-IsTold None number ticket answer before after = after ≡ idle before
-IsTold (Some operation) number ticket answer before after =
-    MatchBool operation.is_over (after ≡ idle before) (Proceeds before number operation (told operation.past ticket answer) after)
+abbrev pub TakesAnswer : Option Operating → (number ticket : ℕ) → Option Reply → (before after : World) → Type 0
+TakesAnswer None number ticket answer before after = after ≡ idle before
+TakesAnswer (Some operation) number ticket answer before after =
+    MatchBool operation.is_over (after ≡ idle before) (Proceeds before number operation (after_answer operation.past ticket answer) after)
 
 -- a request comes to its device, and a reply to its operation
-abbrev pub Comes : Option Mail → (before after : World) → Type 0
+abbrev pub Comes : Option Message → (before after : World) → Type 0
 Comes None before after = after ≡ idle before
 Comes (Some (Request at operation sent)) before after = OnScene (is_up before.scene sent.device) (Handles before.scene operation sent) before after
-Comes (Some (Answer at operation sent reply)) before after = IsTold (numbered before.operations operation) operation sent.ticket (Some reply) before after
+Comes (Some (Answer at operation sent reply)) before after = TakesAnswer (numbered before.operations operation) operation sent.ticket (Some reply) before after
 
 -- ---- starts
 
@@ -94,11 +94,6 @@ begins begun world = record { begun = begun; start = world.scene.now; past = [];
 abbrev pub Begins : Begun → Scene → (before after : World) → Type 0
 Begins begun scene before after =
     Proceeds (record before { scene = scene; operations = before.operations ++ begins begun before ∷ [] }) (length before.operations + 1) (begins begun before) [] after
-
--- of a device's reconstructor
-abbrev pub recon_of : Bool → ClusterModel → (device : ℕ) → NameModel → Begun
-recon_of true cluster device name = Sync (record { cluster = cluster; device = device; place = place_of_name cluster name })
-recon_of false cluster device name = Revert (record { cluster = cluster; device = device; place = place_of_name cluster name })
 
 -- A put and a delete draw a stamp; where none is left, they don't start.
 abbrev pub Starts : Job → (before after : World) → Type 0
@@ -119,14 +114,14 @@ Starts (Recon device name) before after =
 -- what an event may do to a world
 abbrev pub Happens : Event → (before after : World) → Type 0
 Happens (Start job) before after = Starts job before after
-Happens (Deliver message) before after = Comes (numbered before.scene.mail message) before after
-Happens (Crash message) before after = OnRequest (numbered before.scene.mail message) (λ operation sent. Crashes before.scene sent) before after
-Happens (Fault message) before after = OnRequest (numbered before.scene.mail message) (λ operation sent. Fails before.scene operation sent) before after
+Happens (Deliver message) before after = Comes (numbered before.scene.messages message) before after
+Happens (Crash message) before after = OnRequest (numbered before.scene.messages message) (λ operation sent. Crashes before.scene sent) before after
+Happens (Fault message) before after = OnRequest (numbered before.scene.messages message) (λ operation sent. Fails before.scene operation sent) before after
 Happens (CrashMount device) before after = OnScene (is_down before.scene device) (CrashesMounting before.scene device) before after
 Happens (Stop device) before after = OnScene (is_up before.scene device) (λ scene. scene ≡ stopped device before.scene) before after
 Happens (Restart device) before after = OnScene (is_down before.scene device) (Restarts before.scene device) before after
 Happens (Lose device) before after = OnScene (is_among (ids_of before.scene.cluster) device) (λ scene. scene ≡ lost device before.scene) before after
-Happens (GiveUp operation ticket) before after = IsTold (numbered before.operations operation) operation ticket None before after
+Happens (GiveUp operation ticket) before after = TakesAnswer (numbered before.operations operation) operation ticket None before after
 Happens (SetClock stamp) before after = (stamp ≤ greatest_stamp) × (after ≡ record (idle before) { clock = stamp })
 
 -- these events lead from one world to another, the first of them first

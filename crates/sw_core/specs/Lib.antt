@@ -1,4 +1,4 @@
 pub mod Event
-pub mod Operating
 pub mod Sound
 pub mod World
+pub mod WorldMove

@@ -3,8 +3,8 @@ use Rattle.std.specs.Prelude.{◌≡◌, ℕ, zero, suc, Bool, true, false, List
 use Rattle.sw_ring.specs.Cluster.{ClusterModel}
 use Rattle.sw_message.specs.Transcript.{Gave, Hand, Over, Step, Wait}
 use Rattle.sw_message.specs.declared.sent.Sent.{Sent}
-use Rattle.sw_scene.specs.Scene.{Scene, empty_scene}
-use Rattle.sw_core.specs.Operating.{Begun, IsNext}
+use Rattle.sw_law_scene.specs.Scene.{Scene, empty_scene}
+use Rattle.sw_operation.specs.Operating.{Begun, IsNext}
 
 -- an operation: what it was begun with, at which step, its transcript, the latest step first, and whether it is over
 pub record Operating : Type 0 where
@@ -32,7 +32,7 @@ empty_world cluster = record { scene = empty_scene cluster; clock = first_clock;
 
 abbrev pub numbered : {A : Type 0} → List A → ℕ → Option A
 numbered items zero = None
-numbered items (suc place) = slice_get items place
+numbered items (suc slot) = slice_get items slot
 
 -- the items with another one of that number
 abbrev pub with_numbered : {A : Type 0} → ℕ → A → List A → List A

@@ -3,4 +3,4 @@
 
 mod laws;
 
-pub use crate::laws::{run_law, tickets_law};
+pub use crate::laws::{moves_law, run_law, tickets_law};

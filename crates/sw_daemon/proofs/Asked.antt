@@ -6,7 +6,7 @@ use Rattle.std.proofs.lemmas.List.Elements.{Contains-append_left}
 use Rattle.sw_hashpath.specs.Place.{PlaceModel}
 use Rattle.sw_ring.proofs.Among.{Contains-cons, Contains-from_among}
 use Rattle.sw_message.specs.Message.{is_primary}
-use Rattle.sw_message.specs.Transcript.{Gave, IsRun, Step, Told, given, is_waiting}
+use Rattle.sw_message.specs.Transcript.{Closed, Gave, IsRun, Step, given, is_waiting}
 use Rattle.sw_message.specs.declared.message.Msg.TheVariants as message
 use Rattle.sw_message.specs.declared.reply.Reply.{Reply}
 use Rattle.sw_message.specs.declared.reply.Reply.TheVariants as reply
@@ -59,10 +59,10 @@ module _ (begun : syncs.Begun) where
   given-later : (past : List Step) (sent : Sent) → OwnGiven past → OwnGiven (Gave sent ∷ past)
   given-later past sent was = record { sent = was.sent; there = Contains-cons was.sent sent (given past) was.there; to_own = was.to_own; asks = was.asks }
 
-  told-given : (past : List Step) (sent : Sent) (answer : Option Reply) → OwnGiven past → OwnGiven (Told sent answer ∷ past)
+  told-given : (past : List Step) (sent : Sent) (answer : Option Reply) → OwnGiven past → OwnGiven (Closed sent answer ∷ past)
   told-given past sent answer was = record { sent = was.sent; there = was.there; to_own = was.to_own; asks = was.asks }
 
-  told-asks : (past : List Step) (sent : Sent) (answer : Option Reply) (stage : Stage) (due : List Errand) → AsksOwn past stage due → AsksOwn (Told sent answer ∷ past) stage due
+  told-asks : (past : List Step) (sent : Sent) (answer : Option Reply) (stage : Stage) (due : List Errand) → AsksOwn past stage due → AsksOwn (Closed sent answer ∷ past) stage due
   told-asks past sent answer (Handoffs heard) due is = tt
   told-asks past sent answer (Primaries heard) due (inl there) = inl there
   told-asks past sent answer (Primaries heard) due (inr was) = inr (told-given past sent answer was)
@@ -107,8 +107,8 @@ module _ (begun : syncs.Begun) where
     asks-in (Gave sent ∷ past) state (before, was, hands) =
         subst (AsksIn (Gave sent ∷ past)) (sym hands.after_is)
         (gave-asks past sent before.stage hands.errand hands.later hands.message (subst (AsksOwn past before.stage) hands.first (asks-in past before was)))
-    asks-in (Told sent answer ∷ past) state (before, was, after, takes, state_is) =
-        let now = Told sent answer ∷ past in
+    asks-in (Closed sent answer ∷ past) state (before, was, after, takes, state_is) =
+        let now = Closed sent answer ∷ past in
         subst (AsksIn now) (sym state_is)
         (settled-asks now (is_waiting now) after (subst (AsksIn now) (sym takes.after_is)
         (hears-asks now before.stage takes.errand answer takes.stage before.due takes.more takes.hears (told-asks past sent answer before.stage before.due (asks-in past before was)))))

@@ -3,7 +3,7 @@ use Rattle.std.proofs.Common.{◌≡◌, inl, inr, ◌⊎◌, ℕ, ◌+◌, Bool
 use Rattle.std.proofs.lemmas.Option.{none-some, same_Some}
 use Rattle.sw_hashpath.specs.Place.{PlaceModel}
 use Rattle.sw_message.specs.Message.{is_primary, place_in}
-use Rattle.sw_message.specs.Transcript.{Gave, Hand, IsRun, Step, Told, given, is_waiting, open_at}
+use Rattle.sw_message.specs.Transcript.{Closed, Gave, Hand, IsRun, Step, given, is_waiting, open_at}
 use Rattle.sw_message.specs.declared.message.Msg.{Msg}
 use Rattle.sw_message.specs.declared.reply.Reply.{Reply}
 use Rattle.sw_message.specs.declared.sent.Sent.{Sent}
@@ -36,7 +36,7 @@ use Rattle.sw_daemon.proofs.Renumbering.{matches, open-renumbered, renumber}
 -- ---- the transcript of a stage
 
 abbrev pub AreTold : List Step → List Step → Type 0
-AreTold past own = (sent : Sent) (answer : Option Reply) → Contains own (Told sent answer) → WasTold past sent.device sent.msg answer
+AreTold past own = (sent : Sent) (answer : Option Reply) → Contains own (Closed sent answer) → WasTold past sent.device sent.msg answer
 
 pub record Knows (begun : Begun) (past : List Step) (state : State) : Type 0 where
   pub justified : IsJustified begun past state.course
@@ -94,7 +94,7 @@ module _ (begun : Begun) (past : List Step) where
   knows-turned count state turned (inr (end, ends, course, follows, turned_is)) knows = subst (Knows begun past) (sym turned_is) (record {
     justified = stage-follows begun past state.own knows.tells state.course.task state.course.places state.course.parts state.course.report knows.justified knows.run end ends (Does course) follows;
     run = tt;
-    tells = λ sent answer there. absurd (none_in (Told sent answer) there);
+    tells = λ sent answer there. absurd (none_in (Closed sent answer) there);
   })
 
   knows-gave : (count : ℕ) (state : State) (sent : Sent) (after : State) → Gives begun count state sent after → Knows begun past state → Knows begun (Gave sent ∷ past) after
@@ -107,44 +107,44 @@ module _ (begun : Begun) (past : List Step) where
       })
     where
       told-gave : (own : Sent) (steps : List Step) → AreTold (Gave sent ∷ past) steps → AreTold (Gave sent ∷ past) (Gave own ∷ steps)
-      told-gave own steps are one answer there = by_place (first_or_later (Gave own) steps (Told one answer) there)
+      told-gave own steps are one answer there = by_place (first_or_later (Gave own) steps (Closed one answer) there)
         where
-          by_place : (Gave own ≡ Told one answer) ⊎ Contains steps (Told one answer) → WasTold (Gave sent ∷ past) one.device one.msg answer
+          by_place : (Gave own ≡ Closed one answer) ⊎ Contains steps (Closed one answer) → WasTold (Gave sent ∷ past) one.device one.msg answer
           by_place (inl same) = absurd (cc)
           by_place (inr later) = are one answer later
 
   module _ (state : State) (is : IsState begun past state) (knows : Knows begun past state) (own : Sent) (answer : Option Reply) where
     abbrev Now : List Step
-    Now = Told (renumbered state.before own) answer ∷ past
+    Now = Closed (renumbered state.before own) answer ∷ past
 
-    told-now : AreTold Now (Told own answer ∷ state.own)
-    told-now one given there = by_place (first_or_later (Told own answer) state.own (Told one given) there)
+    told-now : AreTold Now (Closed own answer ∷ state.own)
+    told-now one given there = by_place (first_or_later (Closed own answer) state.own (Closed one given) there)
       where
-        by_place : (Told own answer ≡ Told one given) ⊎ Contains state.own (Told one given) → WasTold Now one.device one.msg given
+        by_place : (Closed own answer ≡ Closed one given) ⊎ Contains state.own (Closed one given) → WasTold Now one.device one.msg given
         by_place (inl same) =
             let sents : own ≡ one = cc in
             let answers : answer ≡ given = cc in
             subst (λ (other : Sent). WasTold Now other.device other.msg given) sents
-            (subst (λ (other : Option Reply). WasTold Now own.device own.msg other) answers (state.before + own.ticket, here (Told (renumbered state.before own) answer) past))
-        by_place (inr later) = told-later past (Told (renumbered state.before own) answer) one.device one.msg given (knows.tells one given later)
+            (subst (λ (other : Option Reply). WasTold Now own.device own.msg other) answers (state.before + own.ticket, here (Closed (renumbered state.before own) answer) past))
+        by_place (inr later) = told-later past (Closed (renumbered state.before own) answer) one.device one.msg given (knows.tells one given later)
 
-    knows-now : open_at (state.before + own.ticket) past ≡ Some (renumbered state.before own) → Knows begun Now (record state { own = Told own answer ∷ state.own })
+    knows-now : open_at (state.before + own.ticket) past ≡ Some (renumbered state.before own) → Knows begun Now (record state { own = Closed own answer ∷ state.own })
     knows-now opened = record {
-      justified = justified-later begun past (Told (renumbered state.before own) answer) state.course knows.justified;
+      justified = justified-later begun past (Closed (renumbered state.before own) answer) state.course knows.justified;
       run = (own-open begun past state own is opened, knows.run);
       tells = told-now;
     }
 
-  knows-took : (state : State) (sent : Sent) (answer : Option Reply) (after : State) → IsState begun past state → Takes state sent answer after → open_at sent.ticket past ≡ Some sent → Knows begun past state → Knows begun (Told sent answer ∷ past) after
+  knows-took : (state : State) (sent : Sent) (answer : Option Reply) (after : State) → IsState begun past state → Takes state sent answer after → open_at sent.ticket past ≡ Some sent → Knows begun past state → Knows begun (Closed sent answer ∷ past) after
   knows-took state sent answer after is takes opened knows =
-      subst (Knows begun (Told sent answer ∷ past)) (sym takes.after_is)
-      (subst (λ (one : Sent). Knows begun (Told one answer ∷ past) (record state { own = Told takes.own answer ∷ state.own })) (sym takes.sent_is)
+      subst (Knows begun (Closed sent answer ∷ past)) (sym takes.after_is)
+      (subst (λ (one : Sent). Knows begun (Closed one answer ∷ past) (record state { own = Closed takes.own answer ∷ state.own })) (sym takes.sent_is)
       (knows-now state is knows takes.own answer (subst (λ (one : Sent). open_at one.ticket past ≡ Some one) takes.sent_is opened)))
 
 pub known : (begun : Begun) (past : List Step) (state : State) → IsRun (IsNext begun) past → IsState begun past state → Knows begun past state
-known begun [] state run is = subst (Knows begun []) (sym is) (record { justified = justified-begun begun [] empty_report; run = tt; tells = λ sent answer there. absurd (none_in (Told sent answer) there) })
+known begun [] state run is = subst (Knows begun []) (sym is) (record { justified = justified-begun begun [] empty_report; run = tt; tells = λ sent answer there. absurd (none_in (Closed sent answer) there) })
 known begun (Gave sent ∷ past) state run (before, was, gives) = knows-gave begun past (length (given past)) before sent state gives (known begun past before run.1 was)
-known begun (Told sent answer ∷ past) state run (before, was, takes) = knows-took begun past before sent answer state was takes run.0 (known begun past before run.1 was)
+known begun (Closed sent answer ∷ past) state run (before, was, takes) = knows-took begun past before sent answer state was takes run.0 (known begun past before run.1 was)
 
 -- ---- what is handed out
 

@@ -10,7 +10,7 @@ use Rattle.sw_ring.specs.Cluster.{column_of}
 use Rattle.sw_ring.specs.Ring.{is_among}
 use Rattle.sw_ring.proofs.Among.{Contains-cons}
 use Rattle.sw_message.specs.Message.{is_primary, place_in}
-use Rattle.sw_message.specs.Transcript.{Gave, IsRun, Step, Told, open_at}
+use Rattle.sw_message.specs.Transcript.{Closed, Gave, IsRun, Step, open_at}
 use Rattle.sw_message.specs.declared.message.Msg.{Msg}
 use Rattle.sw_message.specs.declared.message.Msg.TheVariants as message
 use Rattle.sw_message.specs.declared.reply.Reply.{Reply}
@@ -119,10 +119,10 @@ module _ (past own : List Step) (sent one : Sent) where
 
 module _ (begun : Begun) (past own : List Step) (sent : Sent) (ticket : ℕ) (answer : Option Reply) (opened : open_at sent.ticket own ≡ Some sent) where
   abbrev Now : List Step
-  Now = Told (record sent { ticket = ticket }) answer ∷ past
+  Now = Closed (record sent { ticket = ticket }) answer ∷ past
 
   abbrev OwnNow : List Step
-  OwnNow = Told sent answer ∷ own
+  OwnNow = Closed sent answer ∷ own
 
   -- what an open message asks was not told yet
   asked-untold : (device : ℕ) (what : Survey) → IsRun (stages.IsNext (asks begun device what)) own → OnlyIn past own device (message_of what) → NotTold past sent.device sent.msg
@@ -163,12 +163,12 @@ module _ (begun : Begun) (past own : List Step) (sent : Sent) (ticket : ℕ) (an
   -- ---- what was told
 
   told-here : (device : ℕ) (msg : Msg) (given : Option Reply) → sent.device ≡ device → sent.msg ≡ msg → answer ≡ given → WasTold OwnNow device msg given
-  told-here device msg given of is same = as-told OwnNow sent device msg given of is (subst (λ (one : Option Reply). Contains OwnNow (Told sent one)) same (here (Told sent answer) own))
+  told-here device msg given of is same = as-told OwnNow sent device msg given of is (subst (λ (one : Option Reply). Contains OwnNow (Closed sent one)) same (here (Closed sent answer) own))
 
   told-only : (device : ℕ) (msg : Msg) → OnlyIn past own device msg → OnlyIn Now OwnNow device msg
   told-only device msg only given told = elim (told-cases past (record sent { ticket = ticket }) answer device msg given told) [
     | inl this ↦ told-here device msg given this.0 this.1 this.2
-    | inr before ↦ told-later own (Told sent answer) device msg given (only given before)
+    | inr before ↦ told-later own (Closed sent answer) device msg given (only given before)
   ]
 
   told-alone : (task : Task) → IsAlone past own task → IsAlone Now OwnNow task

@@ -4,7 +4,7 @@ use Rattle.std.specs.List.{find}
 use Rattle.std.proofs.lemmas.Bool.{cond-false, cond-true}
 use Rattle.std.proofs.lemmas.Option.{none-some, same_Some}
 use Rattle.sw_ring.proofs.Among.{Contains-cons}
-use Rattle.sw_message.specs.Transcript.{Gave, Hand, IsRun, Next, Step, Told, is_not, open_at, opens}
+use Rattle.sw_message.specs.Transcript.{Closed, Gave, Hand, IsRun, Next, Step, is_not, open_at, opens}
 use Rattle.sw_message.specs.declared.sent.Sent.{Sent}
 use Rattle.sw_gather.proofs.Lists.{first_or_later, from_filter, here, none_in}
 
@@ -22,7 +22,7 @@ module _ (machine : List Step → Next → Type 0) (P : Sent → Type 0) (hands 
   opens-are : (past : List Step) → IsRun machine past → (sent : Sent) → Contains (opens past) sent → P sent
   opens-are [] run sent there = absurd (none_in sent there)
   opens-are (Gave one ∷ past) run sent there = elim (first_or_later one (opens past) sent there) [ inl same ↦ subst P same (hands past one run.0) | inr later ↦ opens-are past run.1 sent later ]
-  opens-are (Told one answer ∷ past) run sent there = opens-are past run.1 sent (from_filter (is_not one.ticket) (opens past) sent there).0
+  opens-are (Closed one answer ∷ past) run sent there = opens-are past run.1 sent (from_filter (is_not one.ticket) (opens past) sent there).0
 
   pub open-is : (past : List Step) → IsRun machine past → (sent : Sent) → open_at sent.ticket past ≡ Some sent → P sent
   open-is past run sent is = opens-are past run sent (one-found sent.ticket (opens past) sent is)

@@ -4,7 +4,7 @@ use Rattle.std.proofs.lemmas.Option.{none-some}
 use Rattle.sw_ring.specs.Cluster.{ClusterModel}
 use Rattle.sw_message.specs.Learnt.{AreKnown, Learnt}
 use Rattle.sw_message.specs.Running.{IsOf}
-use Rattle.sw_message.specs.Transcript.{Gave, Hand, Over, Step, Told, Wait, given, is_waiting, open_at, opens, told, told_of}
+use Rattle.sw_message.specs.Transcript.{Closed, Gave, Hand, Over, Step, Wait, after_answer, closed_by, given, is_waiting, open_at, opens}
 use Rattle.sw_message.specs.Warrant.{IsWarranted}
 use Rattle.sw_message.specs.declared.reply.Reply.{Reply}
 use Rattle.sw_message.specs.declared.sent.Sent.{Sent}
@@ -254,34 +254,34 @@ module _ (pass : PassModel) (begun : Begun) (past : List Step) (stands : Stands 
     stands = does;
   }
 
-  ignored-at : (ticket : ℕ) → told past ticket answer ≡ past → (after : PassModel) → Stands after begun past → Stands after begun (told past ticket answer)
+  ignored-at : (ticket : ℕ) → after_answer past ticket answer ≡ past → (after : PassModel) → Stands after begun past → Stands after begun (after_answer past ticket answer)
   ignored-at ticket is after on = subst (Stands after begun) (sym is) on
 
-  before-in : (ticket : ℕ) → ticket < pass.before → StandsIn pass begun stands.state → told past ticket answer ≡ past
+  before-in : (ticket : ℕ) → ticket < pass.before → StandsIn pass begun stands.state → after_answer past ticket answer ≡ past
   before-in ticket less (inl (report, over, is)) = told-none past answer ticket (none-open pass begun past stands report over)
   before-in ticket less (inr (turned, turns, does)) = told-before past answer turned (matches_so pass begun past stands turned turns) ticket (omega (arith, less, does.before_is))
 
   -- one to a message of an earlier stage is ignored
-  pub stands_before : (ticket : ℕ) → ticket < pass.before → Stands pass begun (told past ticket answer)
+  pub stands_before : (ticket : ℕ) → ticket < pass.before → Stands pass begun (after_answer past ticket answer)
   stands_before ticket less = ignored-at ticket (before-in ticket less stands.stands) pass stands
 
-  none-in : (ticket : ℕ) → pass.stage ≡ None → StandsIn pass begun stands.state → told past ticket answer ≡ past
+  none-in : (ticket : ℕ) → pass.stage ≡ None → StandsIn pass begun stands.state → after_answer past ticket answer ≡ past
   none-in ticket none (inl (report, over, is)) = told-none past answer ticket (none-open pass begun past stands report over)
   none-in ticket none (inr (turned, turns, does)) =
       let empty : turned.own ≡ [] = subst (λ (stage : Option Stage). StandsOn stage (stage_of begun turned.course.task) turned.own) none does.stage_is in
       told-none past answer ticket ((matches_so pass begun past stands turned turns).opens_are ∙ ap (λ (own : List Step). map (renumbered turned.before) (opens own)) empty)
 
   -- so is one where the stage was not begun
-  pub stands_unstaged : (ticket : ℕ) → pass.stage ≡ None → Stands pass begun (told past ticket answer)
+  pub stands_unstaged : (ticket : ℕ) → pass.stage ≡ None → Stands pass begun (after_answer past ticket answer)
   stands_unstaged ticket none = ignored-at ticket (none-in ticket none stands.stands) pass stands
 
   module _ (ticket own : ℕ) (is : ticket ≡ pass.before + own) (job after : Stage) (staged : pass.stage ≡ Some job)
-      (takes : (one : stages.Begun) (steps : List Step) → staging.Stands job one steps → staging.Stands after one (told steps own answer)) where
+      (takes : (one : stages.Begun) (steps : List Step) → staging.Stands job one steps → staging.Stands after one (after_answer steps own answer)) where
     abbrev taken : PassModel
     taken = record pass { stage = Some after }
 
     module _ (turned : State) (turns : Turns begun pass.count stands.state turned) (does : DoesIn pass begun turned) where
-      on : staging.Stands after (stage_of begun turned.course.task) (told turned.own own answer)
+      on : staging.Stands after (stage_of begun turned.course.task) (after_answer turned.own own answer)
       on = takes (stage_of begun turned.course.task) turned.own (subst (λ (stage : Option Stage). StandsOn stage (stage_of begun turned.course.task) turned.own) staged does.stage_is)
 
       ticket-is : turned.before + own ≡ ticket
@@ -295,9 +295,9 @@ module _ (pass : PassModel) (begun : Begun) (past : List Step) (stands : Stands 
       unturned sent some (inl same) = same
       unturned sent some (inr (end, ends, course, follows, turned_is)) = absurd (none-some sent (subst (λ (one : State). open_at own one.own ≡ Some sent) turned_is some))
 
-      heard : (sent : Sent) → open_at own turned.own ≡ Some sent → Stands taken begun (Told (renumbered turned.before sent) answer ∷ past)
+      heard : (sent : Sent) → open_at own turned.own ≡ Some sent → Stands taken begun (Closed (renumbered turned.before sent) answer ∷ past)
       heard sent some =
-          let next : State = record turned { own = Told sent answer ∷ turned.own } in
+          let next : State = record turned { own = Closed sent answer ∷ turned.own } in
           record {
             valid = stands.valid;
             run = run-told past answer turned same (IsNext begun) own sent some stands.run;
@@ -313,12 +313,12 @@ module _ (pass : PassModel) (begun : Begun) (past : List Step) (stands : Stands 
                 course_is = does.course_is;
                 sound = does.sound;
                 before_is = does.before_is;
-                stage_is = subst (staging.Stands after (stage_of begun turned.course.task)) (ap (told_of turned.own answer) some) on;
+                stage_is = subst (staging.Stands after (stage_of begun turned.course.task)) (ap (closed_by turned.own answer) some) on;
               },
             );
           }
 
-      taken-by : (opened : Option Sent) → open_at own turned.own ≡ opened → Stands taken begun (told past (turned.before + own) answer)
+      taken-by : (opened : Option Sent) → open_at own turned.own ≡ opened → Stands taken begun (after_answer past (turned.before + own) answer)
       taken-by None none =
           ignored-at (turned.before + own) (told-ignored past answer turned same own none) taken
           (same-but (Some after) (inr (
@@ -328,15 +328,15 @@ module _ (pass : PassModel) (begun : Begun) (past : List Step) (stands : Stands 
               course_is = does.course_is;
               sound = does.sound;
               before_is = does.before_is;
-              stage_is = subst (staging.Stands after (stage_of begun turned.course.task)) (ap (told_of turned.own answer) none) on;
+              stage_is = subst (staging.Stands after (stage_of begun turned.course.task)) (ap (closed_by turned.own answer) none) on;
             },
           )))
       taken-by (Some sent) some = subst (Stands taken begun) (sym (told-open past answer turned same own sent some)) (heard sent some)
 
-    taken-in : StandsIn pass begun stands.state → Stands taken begun (told past ticket answer)
+    taken-in : StandsIn pass begun stands.state → Stands taken begun (after_answer past ticket answer)
     taken-in (inl (report, over, seen)) = ignored-at ticket (told-none past answer ticket (none-open pass begun past stands report over)) taken (same-but (Some after) (inl (report, over, seen)))
     taken-in (inr (turned, turns, does)) =
-        subst (λ n. Stands taken begun (told past n answer)) (ticket-is turned turns does) (taken-by turned turns does (open_at own turned.own) refl)
+        subst (λ n. Stands taken begun (after_answer past n answer)) (ticket-is turned turns does) (taken-by turned turns does (open_at own turned.own) refl)
 
-    pub stands_told : Stands taken begun (told past ticket answer)
+    pub stands_told : Stands taken begun (after_answer past ticket answer)
     stands_told = taken-in stands.stands

@@ -1,7 +1,7 @@
 -- What a question hands out and is told.
 use Rattle.std.proofs.Common.{◌≡◌, ◌⊎◌, inl, inr, ℕ, Contains, List, [], ◌∷◌, Option, Some, refl, sym, ap, subst, ◌∙◌}
 use Rattle.std.proofs.lemmas.Option.{none-some}
-use Rattle.sw_message.specs.Transcript.{Gave, Hand, IsRun, Step, Told, open_at}
+use Rattle.sw_message.specs.Transcript.{Closed, Gave, Hand, IsRun, Step, open_at}
 use Rattle.sw_message.specs.declared.message.Msg.{Msg}
 use Rattle.sw_message.specs.declared.reply.Reply.{Reply}
 use Rattle.sw_message.specs.declared.sent.Sent.{Sent}
@@ -16,7 +16,7 @@ module _ (begun : Begun) where
   pub hands-own : (past : List Step) (sent : Sent) → IsNext begun past (Hand sent) → sent ≡ sent_of begun
   hands-own [] sent is = cc
   hands-own (Gave one ∷ past) sent is = absurd (cc)
-  hands-own (Told one answer ∷ past) sent is = absurd (cc)
+  hands-own (Closed one answer ∷ past) sent is = absurd (cc)
 
   -- an answer is one to its message
   pub told-own : (past : List Step) → IsRun (IsNext begun) past → (sent : Sent) → open_at sent.ticket past ≡ Some sent → sent ≡ sent_of begun
@@ -29,21 +29,21 @@ module _ (begun : Begun) where
   gave-asked : (past : List Step) (sent : Sent) → IsNext begun past (Hand sent) → IsAsked (Gave sent ∷ past)
   gave-asked [] sent is = inr (inl (ap (λ (one : Sent). Gave one ∷ []) (hands-own [] sent is)))
   gave-asked (Gave one ∷ past) sent is = absurd (cc)
-  gave-asked (Told one answer ∷ past) sent is = absurd (cc)
+  gave-asked (Closed one answer ∷ past) sent is = absurd (cc)
 
   open-in : (past steps : List Step) (sent : Sent) → open_at sent.ticket past ≡ Some sent → past ≡ steps → open_at sent.ticket steps ≡ Some sent
   open-in past steps sent is same = subst (λ (those : List Step). open_at sent.ticket those ≡ Some sent) same is
 
-  told-asked : (past : List Step) (sent : Sent) (answer : Option Reply) → IsRun (IsNext begun) past → open_at sent.ticket past ≡ Some sent → IsAsked past → IsAsked (Told sent answer ∷ past)
+  told-asked : (past : List Step) (sent : Sent) (answer : Option Reply) → IsRun (IsNext begun) past → open_at sent.ticket past ≡ Some sent → IsAsked past → IsAsked (Closed sent answer ∷ past)
   told-asked past sent answer run is (inl none) = absurd (none-some sent (open-in past [] sent is none))
   told-asked past sent answer run is (inr (inl gave)) =
-      inr (inr (answer, ap (λ (one : Sent). Told one answer ∷ past) (told-own past run sent is) ∙ ap (λ (those : List Step). Told (sent_of begun) answer ∷ those) gave))
+      inr (inr (answer, ap (λ (one : Sent). Closed one answer ∷ past) (told-own past run sent is) ∙ ap (λ (those : List Step). Closed (sent_of begun) answer ∷ those) gave))
   told-asked past sent answer run is (inr (inr (before, told))) = absurd (none-some sent (open-in past (was_told begun before) sent is told))
 
   asked : (past : List Step) → IsRun (IsNext begun) past → IsAsked past
   asked [] run = inl refl
   asked (Gave sent ∷ past) run = gave-asked past sent run.0
-  asked (Told sent answer ∷ past) run = told-asked past sent answer run.1 run.0 (asked past run.1)
+  asked (Closed sent answer ∷ past) run = told-asked past sent answer run.1 run.0 (asked past run.1)
 
   module _ (device : ℕ) (msg : Msg) (answer : Option Reply) where
     none-told : WasTold (Gave (sent_of begun) ∷ []) device msg answer → ⊥
@@ -71,9 +71,9 @@ module _ (begun : Begun) where
     pub open-untold : (past : List Step) → IsRun (IsNext begun) past → (sent : Sent) → open_at sent.ticket past ≡ Some sent → WasTold past device msg answer → ⊥
     open-untold past run sent is told = untold-by past sent is told (asked past run)
 
-  pub ends-told : (past : List Step) → IsRun (IsNext begun) past → (answer : Option Reply) → IsEnd begun past answer → Contains past (Told (sent_of begun) answer)
+  pub ends-told : (past : List Step) → IsRun (IsNext begun) past → (answer : Option Reply) → IsEnd begun past answer → Contains past (Closed (sent_of begun) answer)
   ends-told [] run answer is = absurd is.1
   ends-told (Gave one ∷ past) run answer is = absurd is.1
-  ends-told (Told one given ∷ past) run answer is =
-      subst (λ (other : Sent). Contains (Told one given ∷ past) (Told other answer)) (told-own past run.1 one run.0)
-      (subst (λ (other : Option Reply). Contains (Told one given ∷ past) (Told one other)) (sym is.1) (here (Told one given) past))
+  ends-told (Closed one given ∷ past) run answer is =
+      subst (λ (other : Sent). Contains (Closed one given ∷ past) (Closed other answer)) (told-own past run.1 one run.0)
+      (subst (λ (other : Option Reply). Contains (Closed one given ∷ past) (Closed one other)) (sym is.1) (here (Closed one given) past))

@@ -5,7 +5,7 @@ use Rattle.std.proofs.lemmas.Bool.{cond-false, cond-true, eq-eqb, eqb-false, eqb
 use Rattle.std.proofs.lemmas.Option.{none-some, same_Some}
 use Rattle.sw_ring.specs.Cluster.{ClusterModel}
 use Rattle.sw_message.specs.Learnt.{AreKnown, IsSoundBook, KnowsReply, Learnt}
-use Rattle.sw_message.specs.Transcript.{Gave, IsRun, Next, Step, Told, given, is_empty, is_not, is_waiting, open_at, opens, told, told_of}
+use Rattle.sw_message.specs.Transcript.{Closed, Gave, IsRun, Next, Step, after_answer, closed_by, given, is_empty, is_not, is_waiting, open_at, opens}
 use Rattle.sw_message.specs.declared.reply.Reply.{Reply}
 use Rattle.sw_message.specs.declared.sent.Sent.{Sent}
 use Rattle.sw_daemon.specs.Pass.{Begun, Gives, IsState, State, Takes, Turns, renumbered, stage_of}
@@ -81,10 +81,10 @@ matches-given begun past state sent after is gives =
       count_is = omega (arith, turned.count_is);
     }))
 
-matches-taken : (past : List Step) (state : State) (sent : Sent) (answer : Option Reply) (after : State) → Matches past state → Takes state sent answer after → Matches (Told sent answer ∷ past) after
+matches-taken : (past : List Step) (state : State) (sent : Sent) (answer : Option Reply) (after : State) → Matches past state → Takes state sent answer after → Matches (Closed sent answer ∷ past) after
 matches-taken past state sent answer after is takes =
-    subst (Matches (Told sent answer ∷ past)) (sym takes.after_is)
-    (subst (λ (one : Sent). Matches (Told one answer ∷ past) (record state { own = Told takes.own answer ∷ state.own })) (sym takes.sent_is) (record {
+    subst (Matches (Closed sent answer ∷ past)) (sym takes.after_is)
+    (subst (λ (one : Sent). Matches (Closed one answer ∷ past) (record state { own = Closed takes.own answer ∷ state.own })) (sym takes.sent_is) (record {
       opens_are = ap (filter (is_not (state.before + takes.own.ticket))) is.opens_are ∙ filter-renumbered state.before takes.own.ticket (opens state.own);
       count_is = is.count_is;
     }))
@@ -92,7 +92,7 @@ matches-taken past state sent answer after is takes =
 pub matches : (begun : Begun) (past : List Step) (state : State) → IsState begun past state → Matches past state
 matches begun [] state is = subst (Matches []) (sym is) (record { opens_are = refl; count_is = refl })
 matches begun (Gave sent ∷ past) state (before, was, gives) = matches-given begun past before sent state (matches begun past before was) gives
-matches begun (Told sent answer ∷ past) state (before, was, takes) = matches-taken past before sent answer state (matches begun past before was) takes
+matches begun (Closed sent answer ∷ past) state (before, was, takes) = matches-taken past before sent answer state (matches begun past before was) takes
 
 -- ---- answers
 
@@ -117,28 +117,28 @@ ticket-found ticket (first ∷ sents) sent is = step (first.ticket == ticket) re
 
 module _ (past : List Step) (answer : Option Reply) where
   -- an answer is ignored where nothing is open, or the ticket is that of no message of the stage
-  pub told-none : (ticket : ℕ) → opens past ≡ [] → told past ticket answer ≡ past
-  told-none ticket none = ap (λ opened. told_of past answer (find (λ (sent : Sent). sent.ticket == ticket) opened)) none
+  pub told-none : (ticket : ℕ) → opens past ≡ [] → after_answer past ticket answer ≡ past
+  told-none ticket none = ap (λ opened. closed_by past answer (find (λ (sent : Sent). sent.ticket == ticket) opened)) none
 
   module _ (state : State) (same : Matches past state) where
-    pub told-before : (ticket : ℕ) → ticket < state.before → told past ticket answer ≡ past
+    pub told-before : (ticket : ℕ) → ticket < state.before → after_answer past ticket answer ≡ past
     told-before ticket less =
-        ap (told_of past answer) (ap (find (λ (sent : Sent). sent.ticket == ticket)) same.opens_are ∙ below-none state.before ticket less (opens state.own))
+        ap (closed_by past answer) (ap (find (λ (sent : Sent). sent.ticket == ticket)) same.opens_are ∙ below-none state.before ticket less (opens state.own))
 
     pub open-renumbered : (ticket : ℕ) → open_at (state.before + ticket) past ≡ renumber state.before (open_at ticket state.own)
     open-renumbered ticket = ap (find (λ (sent : Sent). sent.ticket == state.before + ticket)) same.opens_are ∙ find-renumbered state.before ticket (opens state.own)
 
-    pub told-ignored : (ticket : ℕ) → open_at ticket state.own ≡ None → told past (state.before + ticket) answer ≡ past
-    told-ignored ticket none = ap (told_of past answer) (open-renumbered ticket ∙ ap (renumber state.before) none)
+    pub told-ignored : (ticket : ℕ) → open_at ticket state.own ≡ None → after_answer past (state.before + ticket) answer ≡ past
+    told-ignored ticket none = ap (closed_by past answer) (open-renumbered ticket ∙ ap (renumber state.before) none)
 
     -- else it is one to the message of the stage
     open-so : (ticket : ℕ) (sent : Sent) → open_at ticket state.own ≡ Some sent → open_at (state.before + ticket) past ≡ Some (renumbered state.before sent)
     open-so ticket sent some = open-renumbered ticket ∙ ap (renumber state.before) some
 
-    pub told-open : (ticket : ℕ) (sent : Sent) → open_at ticket state.own ≡ Some sent → told past (state.before + ticket) answer ≡ Told (renumbered state.before sent) answer ∷ past
-    told-open ticket sent some = ap (told_of past answer) (open-so ticket sent some)
+    pub told-open : (ticket : ℕ) (sent : Sent) → open_at ticket state.own ≡ Some sent → after_answer past (state.before + ticket) answer ≡ Closed (renumbered state.before sent) answer ∷ past
+    told-open ticket sent some = ap (closed_by past answer) (open-so ticket sent some)
 
-    pub run-told : (machine : List Step → Next → Type 0) (ticket : ℕ) (sent : Sent) → open_at ticket state.own ≡ Some sent → IsRun machine past → IsRun machine (Told (renumbered state.before sent) answer ∷ past)
+    pub run-told : (machine : List Step → Next → Type 0) (ticket : ℕ) (sent : Sent) → open_at ticket state.own ≡ Some sent → IsRun machine past → IsRun machine (Closed (renumbered state.before sent) answer ∷ past)
     run-told machine ticket sent some run =
         let is = open-so ticket sent some in
         (ap (λ n. open_at n past) (ticket-found (state.before + ticket) (opens past) (renumbered state.before sent) is) ∙ is, run)
@@ -157,7 +157,7 @@ module _ (cluster : ClusterModel) (learnt : Learnt) where
   sound-book : (past : List Step) → AreKnown cluster learnt past → IsSoundBook cluster.policy learnt.book
   sound-book [] known = known
   sound-book (Gave sent ∷ past) known = sound-book past known
-  sound-book (Told sent answer ∷ past) known = sound-book past known.1
+  sound-book (Closed sent answer ∷ past) known = sound-book past known.1
 
   module _ (begun : Begun) where
     pub turned-known : (past : List Step) (count : ℕ) (state turned : State) → AreKnown cluster learnt past → Turns begun count state turned → AreKnown cluster learnt state.own → AreKnown cluster learnt turned.own
@@ -169,6 +169,6 @@ module _ (cluster : ClusterModel) (learnt : Learnt) where
     own-known [] state is known = subst (λ (one : State). AreKnown cluster learnt one.own) (sym is) known
     own-known (Gave sent ∷ past) state (before, was, gives) known =
         subst (λ (one : State). AreKnown cluster learnt one.own) (sym gives.after_is) (turned-known past (length (given past)) before gives.turned known gives.turns (own-known past before was known))
-    own-known (Told sent answer ∷ past) state (before, was, takes) known =
+    own-known (Closed sent answer ∷ past) state (before, was, takes) known =
         subst (λ (one : State). AreKnown cluster learnt one.own) (sym takes.after_is)
         (subst (λ (one : Sent). KnowsReply cluster learnt one.device one.msg answer) takes.sent_is known.0, own-known past before was known.1)

@@ -5,7 +5,7 @@ use Rattle.std.proofs.lemmas.List.Elements.{filter_agree}
 use Rattle.sw_hashpath.specs.Place.{PlaceModel}
 use Rattle.sw_suffix.specs.Table.{Hashed}
 use Rattle.sw_ring.specs.Cluster.{KeepsRules}
-use Rattle.sw_message.specs.Transcript.{Gave, Hand, Next, Over, Step, Told, Wait, given}
+use Rattle.sw_message.specs.Transcript.{Closed, Gave, Hand, Next, Over, Step, Wait, given}
 use Rattle.sw_message.specs.declared.reply.Reply.{Reply}
 use Rattle.sw_message.specs.declared.reply.Reply.TheVariants as reply
 use Rattle.sw_message.specs.declared.sent.Sent.{Sent}
@@ -30,12 +30,12 @@ use Rattle.sw_daemon.proofs.Stages.{cluster-same}
 question-next : (begun : questions.Begun) (past : List Step) (one other : Next) → questions.IsNext begun past one → questions.IsNext begun past other → one ≡ other
 question-next begun [] one other x y = x ∙ sym y
 question-next begun (Gave sent ∷ past) one other x y = x ∙ sym y
-question-next begun (Told sent answer ∷ past) one other x y = x ∙ sym y
+question-next begun (Closed sent answer ∷ past) one other x y = x ∙ sym y
 
 one-told : (past : List Step) (one other : Option Reply) → questions.Tells past one → questions.Tells past other → one ≡ other
 one-told [] one other x y = absurd x
 one-told (Gave sent ∷ past) one other x y = absurd x
-one-told (Told sent given ∷ past) one other x y = x ∙ sym y
+one-told (Closed sent given ∷ past) one other x y = x ∙ sym y
 
 -- one thing comes next
 stage-next : (begun : stages.Begun) → KeepsRules (cluster_of begun) → (past : List Step) (one other : Next) → stages.IsNext begun past one → stages.IsNext begun past other → one ≡ other
@@ -56,7 +56,7 @@ stage-end begun past one other x y = absurd x
 question-over : (begun : questions.Begun) (past : List Step) (answer : Option Reply) → questions.Tells past answer → questions.IsNext begun past Over
 question-over begun [] answer tells = absurd tells
 question-over begun (Gave sent ∷ past) answer tells = absurd tells
-question-over begun (Told sent given ∷ past) answer tells = refl
+question-over begun (Closed sent given ∷ past) answer tells = refl
 
 -- where it has ended, it is over
 stage-over : (begun : stages.Begun) → KeepsRules (cluster_of begun) → (past : List Step) (end : End) → stages.IsEnd begun past end → stages.IsNext begun past Over
@@ -151,14 +151,14 @@ module _ (begun : Begun) (valid : IsBegun begun) where
   one-taking : (state a b : State) (sent : Sent) (answer : Option Reply) → Takes state sent answer a → Takes state sent answer b → a ≡ b
   one-taking state a b sent answer x y =
       let own = same-renumbered state.before x.own y.own (sym x.sent_is ∙ y.sent_is) in
-      x.after_is ∙ ap (λ (sent : Sent). record state { own = Told sent answer ∷ state.own }) own ∙ sym y.after_is
+      x.after_is ∙ ap (λ (sent : Sent). record state { own = Closed sent answer ∷ state.own }) own ∙ sym y.after_is
 
   one_state : (past : List Step) (a b : State) → IsState begun past a → IsState begun past b → a ≡ b
   one_state [] a b x y = x ∙ sym y
   one_state (Gave sent ∷ past) a b (before, was, gives) (other, so, also) =
       let same = one_state past other before so was in
       (one-giving (length (given past)) before a b sent sent gives (subst (λ (state : State). Gives begun (length (given past)) state sent b) same also)).1
-  one_state (Told sent answer ∷ past) a b (before, was, takes) (other, so, also) =
+  one_state (Closed sent answer ∷ past) a b (before, was, takes) (other, so, also) =
       let same = one_state past other before so was in
       one-taking before a b sent answer takes (subst (λ (state : State). Takes state sent answer b) same also)
 

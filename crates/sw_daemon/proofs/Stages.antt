@@ -1,7 +1,7 @@
 -- What holds of the stage of a task, whichever it is.
 use Rattle.std.proofs.Common.{◌≡◌, ℕ, Bool, true, false, List, [], ◌∷◌, length, refl, ap}
 use Rattle.sw_message.specs.Message.{is_primary}
-use Rattle.sw_message.specs.Transcript.{Gave, Hand, Next, Step, Told, given, is_waiting}
+use Rattle.sw_message.specs.Transcript.{Closed, Gave, Hand, Next, Step, given, is_waiting}
 use Rattle.sw_message.specs.declared.sent.Sent.{Sent}
 use Rattle.sw_hashpath.specs.Place.{PlaceModel}
 use Rattle.sw_recon.specs.Revert as reverts
@@ -29,7 +29,7 @@ asks-numbered : (begun : questions.Begun) (past : List Step) (sent : Sent) → q
 unfolding ticket_in
 asks-numbered begun [] sent is = same-ticket sent _ is
 asks-numbered begun (Gave one ∷ past) sent is = absurd (cc)
-asks-numbered begun (Told one answer ∷ past) sent is = absurd (cc)
+asks-numbered begun (Closed one answer ∷ past) sent is = absurd (cc)
 
 module _ (begun : reverts.Begun) (past : List Step) (sent : Sent) where
   reverts-at : (number : ℕ) (status : Status) → Hand sent ≡ reverts.next_at begun number status → sent.ticket ≡ number

@@ -7,7 +7,7 @@ use Rattle.sw_suffix.specs.Table.{Hashed}
 use Rattle.sw_ring.specs.Cluster.{column_of}
 use Rattle.sw_ring.proofs.Among.{Contains-from_among}
 use Rattle.sw_message.specs.Message.{is_primary}
-use Rattle.sw_message.specs.Transcript.{Gave, IsRun, Step, Told, given, open_at}
+use Rattle.sw_message.specs.Transcript.{Closed, Gave, IsRun, Step, given, open_at}
 use Rattle.sw_message.specs.declared.message.Msg.TheVariants as message
 use Rattle.sw_message.specs.declared.reply.Reply.{Reply}
 use Rattle.sw_message.specs.declared.reply.Reply.TheVariants as reply
@@ -84,13 +84,13 @@ module _ (begun : Begun) (valid : IsBegun begun) where
         })
 
   treats-took : (past : List Step) (state : State) (sent : Sent) (answer : Option Reply) (after : State) → IsState begun past state → Takes state sent answer after → open_at sent.ticket past ≡ Some sent → Knows begun past state
-      → Treats begun past state → Treats begun (Told sent answer ∷ past) after
+      → Treats begun past state → Treats begun (Closed sent answer ∷ past) after
   treats-took past state sent answer after is takes opened knows treats =
       let course = state.course in
       let open_own = own-open begun past state takes.own is (subst (λ (one : Sent). open_at one.ticket past ≡ Some one) takes.sent_is opened) in
-      subst (Treats begun (Told sent answer ∷ past)) (sym takes.after_is)
-      (subst (λ (one : Sent). Treats begun (Told one answer ∷ past) (record state { own = Told takes.own answer ∷ state.own })) (sym takes.sent_is) (record {
-        going = going-later begun past (Told (renumbered state.before takes.own) answer) course.task course.places course.parts treats.going;
+      subst (Treats begun (Closed sent answer ∷ past)) (sym takes.after_is)
+      (subst (λ (one : Sent). Treats begun (Closed one answer ∷ past) (record state { own = Closed takes.own answer ∷ state.own })) (sym takes.sent_is) (record {
+        going = going-later begun past (Closed (renumbered state.before takes.own) answer) course.task course.places course.parts treats.going;
         orderly = orderly-told begun past state.own takes.own (state.before + takes.own.ticket) answer open_own course.task course.parts knows.run treats.orderly;
       }))
 
@@ -99,8 +99,8 @@ module _ (begun : Begun) (valid : IsBegun begun) where
   treats (Gave sent ∷ past) state distinct run (before, was, gives) =
       let earlier = once-before begun past (Gave sent) distinct in
       treats-gave past earlier (length (given past)) before sent state gives (known begun past before run.1 was) (treats past before earlier run.1 was)
-  treats (Told sent answer ∷ past) state distinct run (before, was, takes) =
-      treats-took past before sent answer state was takes run.0 (known begun past before run.1 was) (treats past before (once-before begun past (Told sent answer) distinct) run.1 was)
+  treats (Closed sent answer ∷ past) state distinct run (before, was, takes) =
+      treats-took past before sent answer state was takes run.0 (known begun past before run.1 was) (treats past before (once-before begun past (Closed sent answer) distinct) run.1 was)
 
 -- ---- at its end
 

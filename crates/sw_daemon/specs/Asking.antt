@@ -1,7 +1,7 @@
 -- What contracts see of a question, and the transcripts that it stands for.
 use Rattle.std.specs.Prelude.{◌≡◌, ℕ, Bool, true, false, List, [], ◌∷◌, Option}
 use Rattle.sw_message.specs.declared.reply.Reply.{Reply}
-use Rattle.sw_message.specs.Transcript.{Gave, Step, Told}
+use Rattle.sw_message.specs.Transcript.{Closed, Gave, Step}
 use Rattle.sw_daemon.specs.Question.{Begun, IsBegun, sent_of}
 use Rattle.sw_daemon.specs.declared.progress.Progress.{Progress}
 use Rattle.sw_daemon.specs.declared.progress.Progress.TheVariants.{Ended, Starts, Told as HasTold, Waits}
@@ -17,7 +17,7 @@ left Starts = 1
 left other = 0
 
 abbrev pub was_told : Begun → Option Reply → List Step
-was_told begun answer = Told (sent_of begun) answer ∷ Gave (sent_of begun) ∷ []
+was_told begun answer = Closed (sent_of begun) answer ∷ Gave (sent_of begun) ∷ []
 
 abbrev pub IsProgress : Begun → List Step → Progress → Type 0
 IsProgress begun past Starts = past ≡ []

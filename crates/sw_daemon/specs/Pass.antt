@@ -8,7 +8,7 @@ use Rattle.sw_suffix.specs.Table.{Hashed, hash_at}
 use Rattle.sw_ring.specs.Cluster.{ClusterModel, KeepsRules, column_of}
 use Rattle.sw_ring.specs.Ring.{is_among}
 use Rattle.sw_message.specs.Message.{IsMember, is_primary}
-use Rattle.sw_message.specs.Transcript.{Gave, Hand, Next, Over, Step, Told, Wait, given}
+use Rattle.sw_message.specs.Transcript.{Closed, Gave, Hand, Next, Over, Step, Wait, given}
 use Rattle.sw_message.specs.declared.reply.Reply.{Reply}
 use Rattle.sw_message.specs.declared.reply.Reply.TheVariants as reply
 use Rattle.sw_message.specs.declared.sent.Sent.{Sent}
@@ -210,13 +210,13 @@ pub record Gives (begun : Begun) (count : ℕ) (state : State) (sent : Sent) (af
 pub record Takes (state : State) (sent : Sent) (answer : Option Reply) (after : State) : Type 0 where
   pub own : Sent
   pub sent_is : sent ≡ renumbered state.before own
-  pub after_is : after ≡ record state { own = Told own answer ∷ state.own }
+  pub after_is : after ≡ record state { own = Closed own answer ∷ state.own }
 
 -- how far it is after a transcript
 abbrev pub IsState : Begun → List Step → State → Type 0
 IsState begun [] state = state ≡ began_at 0 beginning
 IsState begun (Gave sent ∷ past) state = (before : State) × IsState begun past before × Gives begun (length (given past)) before sent state
-IsState begun (Told sent answer ∷ past) state = (before : State) × IsState begun past before × Takes before sent answer state
+IsState begun (Closed sent answer ∷ past) state = (before : State) × IsState begun past before × Takes before sent answer state
 
 -- a stage is over, and none follows
 abbrev pub IsOver : Begun → State → PassReport → Type 0

@@ -2,7 +2,7 @@
 use Rattle.std.specs.Prelude.{◌≡◌, ℕ, false, List, [], ◌∷◌, Option}
 use Rattle.sw_ring.specs.Cluster.{ClusterModel}
 use Rattle.sw_message.specs.Message.{IsMember}
-use Rattle.sw_message.specs.Transcript.{Gave, Hand, Next, Over, Step, Told, Wait, is_waiting}
+use Rattle.sw_message.specs.Transcript.{Closed, Gave, Hand, Next, Over, Step, Wait, is_waiting}
 use Rattle.sw_message.specs.declared.message.Msg.{Msg}
 use Rattle.sw_message.specs.declared.message.Msg.TheVariants as message
 use Rattle.sw_message.specs.declared.reply.Reply.{Reply}
@@ -30,11 +30,11 @@ sent_of begun = record { ticket = 0; device = begun.device; msg = message_of beg
 abbrev pub IsNext : Begun → List Step → Next → Type 0
 IsNext begun [] next = next ≡ Hand (sent_of begun)
 IsNext begun (Gave sent ∷ past) next = next ≡ Wait
-IsNext begun (Told sent answer ∷ past) next = next ≡ Over
+IsNext begun (Closed sent answer ∷ past) next = next ≡ Over
 
 -- what the last step of a transcript tells
 abbrev pub Tells : List Step → Option Reply → Type 0
-Tells (Told sent given ∷ past) answer = answer ≡ given
+Tells (Closed sent given ∷ past) answer = answer ≡ given
 Tells other answer = ⊥
 
 abbrev pub IsEnd : Begun → List Step → Option Reply → Type 0

@@ -9,7 +9,7 @@ ghost use Rattle.sw_daemon.specs.Stage.{Reverted, Synced};
 
 use crate::comparing::Comparing;
 use crate::differing::{Differing, keep_differing};
-use crate::listed::{is_primary_of, others_of, parts_of_ring, places_of_part};
+use crate::listed::{others_of, parts_of_ring, places_of_part};
 use crate::report::PassReport;
 use crate::task::Task;
 use std::alloc::Global;
@@ -158,7 +158,7 @@ impl Course {
             return Ok(());
         };
         let places = places_of_part(alloc, cluster.part_power(), part, places.as_slice())?;
-        let is_primary = is_primary_of(alloc, cluster, part, device)?;
+        let is_primary = cluster.is_primary(part, device);
         self.places = places;
         if is_primary {
             self.task = Task::ListOwn { part };

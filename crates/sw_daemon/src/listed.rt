@@ -2,8 +2,6 @@
 
 ghost use Rattle.std.specs.Prelude.{◌≡◌, ◌<◌, ◌≤◌, ◌^◌, IfOk, filter, take};
 ghost use Rattle.std.specs.List.{All};
-ghost use Rattle.sw_ring.specs.Cluster.{column_of};
-ghost use Rattle.sw_ring.specs.Ring.{is_among};
 ghost use Rattle.sw_message.specs.Message.{IsMember};
 ghost use Rattle.sw_daemon.specs.Coursing.{IsOfHash};
 ghost use Rattle.sw_daemon.specs.Pass.{is_of_part, is_of_ring, most_parts, most_places, others_of};
@@ -68,19 +66,6 @@ fn is_of_part(power: u32, part: u32, place: &Place) -> bool
     ensures { result ≡ is_of_part power part place.now }
 {
     place.part() == part && place_of(place.hash(), power).part() == part
-}
-
-/// Whether a device is a primary of a partition.
-pub(crate) fn is_primary_of(
-    alloc: Global,
-    cluster: &Cluster,
-    part: u32,
-    device: u16,
-) -> Result<bool, NoMemory>
-    requires { part < 2 ^ cluster.now.part_power }
-    ensures { IfOk result (λ is. is ≡ is_among (column_of cluster.now part) device) }
-{
-    Ok(primaries(alloc, cluster, part)?.contains(&device))
 }
 
 /// The primaries of a partition but one device, in the order of their indices.

@@ -4,7 +4,7 @@ ghost use Rattle.std.specs.Prelude.{◌≡◌, ◌⊎◌, ◌∷◌, ◌+◌, �
 ghost use Rattle.sw_message.specs.Learnt.{AreKnown, Learnt, Nothing};
 ghost use Rattle.sw_message.specs.Message.{IsMember};
 ghost use Rattle.sw_message.specs.Running.{IsOf};
-ghost use Rattle.sw_message.specs.Transcript.{Gave, Hand, Step, Wait, is_waiting, told};
+ghost use Rattle.sw_message.specs.Transcript.{Gave, Hand, Step, Wait, after_answer, is_waiting};
 ghost use Rattle.sw_message.specs.Warrant.{IsWarranted};
 ghost use Rattle.sw_daemon.specs.Pass.{Begun, IsEnd, IsNext};
 ghost use Rattle.sw_daemon.specs.Standing.{IsFresh, Stands, has_ended, is_stage_over};
@@ -160,7 +160,7 @@ impl<'a> PassOp<'a> {
 
     // Takes the answer to a ticket, or that there is none. One that is not open is ignored. It takes no memory.
     fn answer(&mut self, ticket: u64, answer: Option<Reply>)
-        ensures stands { (begun : Begun) (past : List Step) → Stands self.old begun past → Stands self.new begun (told past ticket answer) }
+        ensures stands { (begun : Begun) (past : List Step) → Stands self.old begun past → Stands self.new begun (after_answer past ticket answer) }
         ensures course { self.new.course ≡ self.old.course }
         ensures count { self.new.count ≡ self.old.count }
     {

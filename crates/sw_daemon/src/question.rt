@@ -4,7 +4,7 @@ ghost use Rattle.std.specs.Prelude.{◌≡◌, List, [], IfSome, is_some};
 ghost use Rattle.sw_ring.specs.Cluster.{ClusterModel};
 ghost use Rattle.sw_message.specs.Learnt.{Nothing};
 ghost use Rattle.sw_message.specs.Message.{IsMember};
-ghost use Rattle.sw_message.specs.Transcript.{Step, told};
+ghost use Rattle.sw_message.specs.Transcript.{Step, after_answer};
 ghost use Rattle.sw_daemon.specs.Asking.{Stands, has_ended, left};
 ghost use Rattle.sw_daemon.specs.Question.{Begun, IsEnd, IsNext};
 
@@ -47,7 +47,7 @@ impl Question {
 
     // Takes the answer to a ticket, or that there is none. One that is not open is ignored.
     fn hear(&mut self, ticket: u64, answer: Option<Reply>)
-        ensures stands { (begun : Begun) (past : List Step) → Stands self.old begun past → Stands self.new begun (told past ticket answer) }
+        ensures stands { (begun : Begun) (past : List Step) → Stands self.old begun past → Stands self.new begun (after_answer past ticket answer) }
         ensures ended { has_ended self.new.progress ≡ has_ended self.old.progress }
         ensures left { left self.new.progress ≡ left self.old.progress }
     {

@@ -6,7 +6,6 @@ ghost use Rattle.sw_daemon.specs.Coursing.{IsOfHash, IsSoundTask, IsTask, is_ove
 ghost use Rattle.sw_daemon.specs.Pass.{Task as ATask, stage_of, treats};
 ghost use Rattle.sw_daemon.specs.Staging.{Stands};
 
-use crate::listed::is_primary_of;
 use crate::question::Question;
 use crate::stage::Stage;
 use crate::survey::Survey;
@@ -56,7 +55,7 @@ fn treatment_of<'a>(
     ensures { IfOk result (λ stage. Stands stage (treats (record { cluster = cluster.now; device = device }) place (is_primary cluster.now device place)) []) }
 {
     prove!(cluster.part_power() <= Cluster::GREATEST_PART_POWER);
-    if is_primary_of(alloc, cluster, place.part(), device)? {
+    if cluster.is_primary(place.part(), device) {
         Ok(Stage::Syncs(SyncJob::begin(alloc, cluster, device, place)?))
     } else {
         Ok(Stage::Reverts(RevertJob::begin(alloc, cluster, device, place)))

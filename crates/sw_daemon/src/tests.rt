@@ -140,21 +140,21 @@ fn driven(alloc: Global, op: &mut PassOp, turns: &[Turn]) -> Result<(), Fail> {
     }
 }
 
-// The device at a place of a ring.
-fn device_at(cluster: &Cluster, place: usize) -> Option<u16>
+// The device at a slot of a ring.
+fn device_at(cluster: &Cluster, slot: usize) -> Option<u16>
     ensures { IfSome result (IsMember cluster.now) }
 {
     let devices = cluster.devices();
-    if place >= devices.len() {
+    if slot >= devices.len() {
         return None;
     }
-    Some(devices[place].id)
+    Some(devices[slot].id)
 }
 
-// What a pass of the device at this place reports by these turns, its counts in the order of the report's.
-fn reports(alloc: Global, place: usize, turns: &[Turn], want: [u64; 5]) -> Result<bool, Fail> {
+// What a pass of the device at this slot reports by these turns, its counts in the order of the report's.
+fn reports(alloc: Global, slot: usize, turns: &[Turn], want: [u64; 5]) -> Result<bool, Fail> {
     let cluster = Cluster::read(alloc, RING)?;
-    let own = device_at(&cluster, place).ok_or("no device")?;
+    let own = device_at(&cluster, slot).ok_or("no device")?;
     let mut op = PassOp::begin(alloc, &cluster, own);
     driven(alloc, &mut op, turns)?;
     let [synced, rebuilt, removed, kept, missed] = want;

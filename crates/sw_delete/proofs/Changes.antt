@@ -3,14 +3,15 @@ use Rattle.std.proofs.Common.{◌≡◌, ℕ, ◌+◌, ◌≤◌, ◌<◌, ◌==
 use Rattle.std.specs.List.{find, slice_get}
 use Rattle.std.proofs.lemmas.Option.{none-some, same_Some}
 use Rattle.sw_message.specs.Tickets.{AreTickets}
-use Rattle.sw_message.specs.Transcript.{Gave, Hand, Over, Step, Told, Wait, given, is_waiting, open_at, opens, told}
+use Rattle.sw_message.specs.Transcript.{Closed, Gave, Hand, Over, Step, Wait, after_answer, given, is_waiting, open_at, opens}
 use Rattle.sw_message.specs.declared.message.Msg.TheVariants.{Delete}
 use Rattle.sw_message.specs.declared.reply.Reply.{Reply}
 use Rattle.sw_message.specs.declared.sent.Sent.{Sent}
 use Rattle.sw_quorum.specs.Answers.{Judged, missed}
-use Rattle.sw_quorum.specs.DueLaws as laws
+use Rattle.sw_quorum.proofs.DueLaws as laws
 use Rattle.sw_quorum.specs.Tally.{Counts, counts_of}
-use Rattle.sw_quorum.specs.Transcripts.{run-told, some_found, told-ignored, told-open, told_count}
+use Rattle.sw_quorum.proofs.Transcripts.{run-told, some_found, told-ignored, told-open}
+use Rattle.sw_quorum.specs.Transcripts.{closed_count}
 use Rattle.sw_delete.specs.Delete.{Begun, IsNext, delete_end, delete_message, delete_next, deletes, due, handoffs, says_existed}
 use Rattle.sw_quorum.specs.Verdicts.{delete_verdict}
 use Rattle.sw_delete.specs.Inside.{delete_seen}
@@ -82,8 +83,8 @@ module _ (delete : DeleteModel) (begun : Begun) (past : List Step) (stands : Sta
       let closed = laws.over-closed (delete_message begun) (λ n d. refl) (due begun) past stands.run (grew begun past) (ended begun past end (stands.end_is end ends)) in
       none-some sent (sym (ap (find (λ (one : Sent). one.ticket == ticket)) closed) ∙ is)
 
-  pub stands_ignored : (flags : List Bool) (ticket : ℕ) (answer : Option Reply) → open_at ticket past ≡ None → AreTickets flags (told past ticket answer)
-      → Stands (record delete { tickets = flags }) begun (told past ticket answer)
+  pub stands_ignored : (flags : List Bool) (ticket : ℕ) (answer : Option Reply) → open_at ticket past ≡ None → AreTickets flags (after_answer past ticket answer)
+      → Stands (record delete { tickets = flags }) begun (after_answer past ticket answer)
   stands_ignored flags ticket answer none are =
       let same = told-ignored past ticket answer none in
       subst (Stands (record delete { tickets = flags }) begun) (sym same) (record {
@@ -102,9 +103,9 @@ module _ (delete : DeleteModel) (begun : Begun) (past : List Step) (stands : Sta
 
   pub stands_told : (flags : List Bool) (existed : Bool) (counts : Counts ℕ) (ticket device : ℕ) (answer : Option Reply) (sent : Sent)
       → open_at ticket past ≡ Some sent → slice_get (due begun past) ticket ≡ Some device
-      → AreTickets flags (told past ticket answer) → existed ≡ (delete.existed || says_existed answer)
+      → AreTickets flags (after_answer past ticket answer) → existed ≡ (delete.existed || says_existed answer)
       → ((answers : List (Judged ℕ)) → delete.counts ≡ counts_of answers → counts ≡ counts_of (answers ++ record { about = device; verdict = delete_verdict delete.stamp answer } ∷ []))
-      → Stands (record delete { tickets = flags; existed = existed; counts = counts }) begun (told past ticket answer)
+      → Stands (record delete { tickets = flags; existed = existed; counts = counts }) begun (after_answer past ticket answer)
   stands_told flags existed counts ticket device answer sent is at are existed_is taken =
       let known = open-delete begun past ticket sent stands.run is in
       let same_device : known.0.about ≡ device = same_Some _ _ (sym known.0.found ∙ ap (slice_get (due begun past)) known.1 ∙ at) in
@@ -120,7 +121,7 @@ module _ (delete : DeleteModel) (begun : Begun) (past : List Step) (stands : Sta
         handoffs_are = stands.handoffs_are;
         counts_are = taken (deletes past) stands.counts_are
             ∙ ap (λ stamp. counts_of (deletes past ++ record { about = device; verdict = delete_verdict stamp answer } ∷ [])) stands.stamp_is
-            ∙ ap (λ (one : Sent). counts_of (deletes (Told one answer ∷ past))) (sym message);
+            ∙ ap (λ (one : Sent). counts_of (deletes (Closed one answer ∷ past))) (sym message);
         existed_is = existed_is ∙ ap (λ before. before || says_existed answer) stands.existed_is;
         tickets_are = subst (AreTickets flags) path are;
         end_is = λ end ends. absurd (no_longer ticket sent end is ends);
@@ -128,7 +129,7 @@ module _ (delete : DeleteModel) (begun : Begun) (past : List Step) (stands : Sta
 
   -- ---- no message
 
-  answered_is : delete.counts.answered ≡ told_count past
+  answered_is : delete.counts.answered ≡ closed_count past
   answered_is = ap (λ (counts : Counts ℕ). counts.answered) stands.counts_are ∙ answers-are begun past stands.run
 
   -- where none is due and answers are missing, it waits

@@ -10,7 +10,7 @@ use Rattle.sw_message.specs.Transcript.{Step}
 use Rattle.sw_message.specs.Warrant.{IsWarranted}
 use Rattle.sw_message.specs.declared.sent.Sent.{Sent}
 use Rattle.sw_quorum.specs.Answers.{missed}
-use Rattle.sw_quorum.specs.Places.{handoffs_known, part_small, place_right}
+use Rattle.sw_quorum.proofs.Places.{handoffs_known, part_small, place_right}
 use Rattle.sw_delete.specs.Delete.{Begun, IsBegun, deletes, due, handoffs, place_of, primaries}
 use Rattle.sw_delete.proofs.Transcripts.{IsDelete}
 

@@ -3,11 +3,11 @@ use Rattle.std.proofs.Common.{◌≡◌, ℕ, zero, suc, ◌+◌, ◌-◌, ◌�
 use Rattle.std.specs.List.{slice_get}
 use Rattle.std.proofs.lemmas.List.{length-take, take-append-drop, take-take}
 use Rattle.std.proofs.lemmas.Option.{slice_get_past}
-use Rattle.sw_message.specs.Transcript.{Gave, Step, Told}
+use Rattle.sw_message.specs.Transcript.{Closed, Gave, Step}
 use Rattle.sw_quorum.specs.Answers.{missed}
 use Rattle.sw_quorum.specs.Dues.{Grew, IsLonger}
-use Rattle.sw_quorum.specs.Laws.{missed-grows}
-use Rattle.sw_quorum.specs.Lookups.{slice_get-behind}
+use Rattle.sw_quorum.proofs.Laws.{missed-grows}
+use Rattle.sw_quorum.proofs.Lookups.{slice_get-behind}
 use Rattle.sw_delete.specs.Delete.{Begun, deletes, due, handoffs, judge_delete, primaries}
 
 more-taken : {A : Type 0} (front xs : List A) (m n : ℕ) → m ≤ n → IsLonger (front ++ take m xs) (front ++ take n xs)
@@ -18,7 +18,7 @@ more-taken front xs m n few = (
 
 due-longer : (begun : Begun) (past : List Step) (step : Step) → IsLonger (due begun past) (due begun (step ∷ past))
 due-longer begun past (Gave sent) = ([], sym (append-nil (due begun past)))
-due-longer begun past (Told sent answer) = more-taken (primaries begun) (handoffs begun) _ _ (missed-grows (deletes past) (judge_delete sent.device sent.msg answer))
+due-longer begun past (Closed sent answer) = more-taken (primaries begun) (handoffs begun) _ _ (missed-grows (deletes past) (judge_delete sent.device sent.msg answer))
 
 pub grew : (begun : Begun) (past : List Step) → Grew (due begun) past
 grew begun [] = tt

@@ -14,10 +14,10 @@ use Rattle.sw_message.specs.Transcript.{IsRun, Over, Step, given, opens}
 use Rattle.sw_message.specs.declared.miss.Miss.{Miss}
 use Rattle.sw_message.proofs.Highest.{is_highest}
 use Rattle.sw_quorum.specs.Answers.{done, floors, missed}
-use Rattle.sw_quorum.specs.DueLaws as laws
-use Rattle.sw_quorum.specs.Laws.{none-forbidden, parts, sum-ones}
-use Rattle.sw_quorum.specs.Places.{apart-from_once, counted-among, device_once, one_if, part_small, some-counted}
-use Rattle.sw_quorum.specs.Quorums.{quorums}
+use Rattle.sw_quorum.proofs.DueLaws as laws
+use Rattle.sw_quorum.proofs.Laws.{none-forbidden, parts, sum-ones}
+use Rattle.sw_quorum.proofs.Places.{apart-from_once, counted-among, device_once, one_if, part_small, some-counted}
+use Rattle.sw_quorum.proofs.Quorums.{quorums}
 use Rattle.sw_delete.specs.Causes.{AreMarked, IsDeleted, IsPlaced, IsSuperseded, IsTooFewMarks, WasMarked, WasMissed, WasTold}
 use Rattle.sw_delete.specs.Delete.{Begun, IsBegun, IsNext, delete_end, delete_message, delete_next, deletes, due, end_at, existed_in, handoffs, place_of, primaries, settled_end, too_few_marks}
 use Rattle.sw_delete.specs.declared.end.DeleteEnd.{DeleteEnd}

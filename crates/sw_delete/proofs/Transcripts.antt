@@ -8,9 +8,10 @@ use Rattle.sw_message.specs.declared.message.Msg.TheVariants.{Delete}
 use Rattle.sw_message.specs.declared.reply.Reply.{Reply}
 use Rattle.sw_message.specs.declared.sent.Sent.{Sent}
 use Rattle.sw_quorum.specs.Answers.{Judged}
-use Rattle.sw_quorum.specs.DueLaws as laws
+use Rattle.sw_quorum.proofs.DueLaws as laws
 use Rattle.sw_quorum.specs.Dues.{IsDue}
-use Rattle.sw_quorum.specs.Transcripts.{answers-weigh, judged-once, told_count}
+use Rattle.sw_quorum.proofs.Transcripts.{answers-weigh, judged-once}
+use Rattle.sw_quorum.specs.Transcripts.{closed_count}
 use Rattle.sw_delete.specs.Delete.{Begun, IsNext, delete_end, delete_message, delete_next, deletes, due, end_at, judge_delete}
 use Rattle.sw_delete.specs.declared.end.DeleteEnd.{DeleteEnd}
 use Rattle.sw_delete.proofs.Dues.{grew}
@@ -53,7 +54,7 @@ module _ (begun : Begun) where
   judged past sent answer run is = ap (λ (one : Sent). length (judge_delete one.device one.msg answer)) (open-delete past sent.ticket sent run is).0.is
 
   -- each answer is judged
-  pub answers-are : (past : List Step) → IsRun (IsNext begun) past → length (deletes past) ≡ told_count past
+  pub answers-are : (past : List Step) → IsRun (IsNext begun) past → length (deletes past) ≡ closed_count past
   answers-are past run = judged-once (IsNext begun) (λ sent answer. judge_delete sent.device sent.msg answer) judged past run
 
   -- each message is open or answered

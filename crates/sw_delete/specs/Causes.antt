@@ -4,7 +4,7 @@ use Rattle.std.specs.List.{All, AllPairs}
 use Rattle.sw_hashdir.specs.Directory.{IsAbove}
 use Rattle.sw_hashdir.specs.declared.floor.Floor.{Floor}
 use Rattle.sw_message.specs.Floors.{refuses}
-use Rattle.sw_message.specs.Transcript.{Step, Told}
+use Rattle.sw_message.specs.Transcript.{Closed, Step}
 use Rattle.sw_message.specs.declared.miss.Miss.{Miss}
 use Rattle.sw_message.specs.declared.reply.Reply.{Reply}
 use Rattle.sw_message.specs.declared.reply.Reply.TheVariants as reply
@@ -22,20 +22,20 @@ IsPlaced begun device = Contains (primaries begun) device ⊎ Contains (handoffs
 
 -- the device answered the delete: it has the tombstone
 abbrev pub WasMarked : Begun → List Step → ℕ → Type 0
-WasMarked begun past device = (ticket : ℕ) × (existed : Bool) × Contains past (Told (delete_message begun ticket device) (Some (reply.Deleted existed)))
+WasMarked begun past device = (ticket : ℕ) × (existed : Bool) × Contains past (Closed (delete_message begun ticket device) (Some (reply.Deleted existed)))
 
 -- its answer, or that there was none, was a miss
 abbrev pub WasMissed : Begun → List Step → ℕ → Miss → Type 0
 WasMissed begun past device miss =
-    (ticket : ℕ) × (answer : Option Reply) × Contains past (Told (delete_message begun ticket device) answer) × (delete_verdict begun.stamp answer ≡ Missed miss)
+    (ticket : ℕ) × (answer : Option Reply) × Contains past (Closed (delete_message begun ticket device) answer) × (delete_verdict begun.stamp answer ≡ Missed miss)
 
 -- some reply told of a floor that refuses the tombstone
 abbrev pub WasTold : Begun → List Step → Floor → Type 0
-WasTold begun past floor = ((sent : Sent) × Contains past (Told sent (Some (reply.Superseded floor)))) × (refuses floor begun.stamp ≡ true)
+WasTold begun past floor = ((sent : Sent) × Contains past (Closed sent (Some (reply.Superseded floor)))) × (refuses floor begun.stamp ≡ true)
 
 -- some reply told that the object was there, durable
 abbrev pub ToldExisted : List Step → Type 0
-ToldExisted past = (sent : Sent) × Contains past (Told sent (Some (reply.Deleted true)))
+ToldExisted past = (sent : Sent) × Contains past (Closed sent (Some (reply.Deleted true)))
 
 -- so many different devices of the place have the tombstone
 pub record AreMarked (begun : Begun) (past : List Step) (count : ℕ) (devices : List ℕ) : Type 0 where

@@ -5,7 +5,7 @@ use Rattle.sw_hashdir.specs.declared.floor.Floor.{Floor}
 use Rattle.sw_hashpath.specs.Place.{PlaceModel}
 use Rattle.sw_ring.specs.Cluster.{ClusterModel, KeepsRules, column_of, handoffs_of, place_of_name}
 use Rattle.sw_message.specs.Floors.{highest}
-use Rattle.sw_message.specs.Transcript.{Gave, Hand, Next, Over, Step, Told, Wait}
+use Rattle.sw_message.specs.Transcript.{Closed, Gave, Hand, Next, Over, Step, Wait}
 use Rattle.sw_message.specs.declared.message.Msg.{Msg}
 use Rattle.sw_message.specs.declared.message.Msg.TheVariants.{Delete}
 use Rattle.sw_message.specs.declared.reply.Reply.{Reply}
@@ -55,7 +55,7 @@ says_existed other = false
 abbrev pub existed_in : List Step → Bool
 existed_in [] = false
 existed_in (Gave sent ∷ past) = existed_in past
-existed_in (Told sent answer ∷ past) = existed_in past || says_existed answer
+existed_in (Closed sent answer ∷ past) = existed_in past || says_existed answer
 
 -- ---- the machine
 

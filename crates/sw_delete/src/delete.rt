@@ -1,7 +1,7 @@
 //! Deletes.
 
 ghost use Rattle.std.specs.Prelude.{◌≡◌, ◌+◌, ◌-◌, ◌<◌, [], ◌∷◌, List, Some, None, IfOk, MatchOption, OnErr, length, slice_get, is_some};
-ghost use Rattle.sw_message.specs.Transcript.{Gave, Hand, Over, Step, told};
+ghost use Rattle.sw_message.specs.Transcript.{Gave, Hand, Over, Step, after_answer};
 ghost use Rattle.sw_delete.specs.Delete.{Begun, delete_end, delete_next, due};
 ghost use Rattle.sw_delete.specs.Standing.{Stands, most_messages};
 
@@ -115,7 +115,7 @@ impl DeleteOp {
 
     // Takes the answer to a ticket, or none. One that is not open is ignored. It takes no memory.
     pub(crate) fn answer(&mut self, ticket: u64, answer: Option<Reply>)
-        ensures stands { (begun : Begun) (past : List Step) → Stands self.old begun past → Stands self.new begun (told past ticket answer) }
+        ensures stands { (begun : Begun) (past : List Step) → Stands self.old begun past → Stands self.new begun (after_answer past ticket answer) }
         ensures end { self.new.end ≡ self.old.end }
         ensures left { most_messages self.new - length self.new.tickets ≡ most_messages self.old - length self.old.tickets }
     {

@@ -16,9 +16,9 @@ module _ {D : Type 0} (seen : D → Seen) (left_since : D → Past) (cluster : C
   same_device old new (inr (due, inl (between, remounts, is_node, handled))) = handled.device ∙ remounts.device
   same_device old new (inr (due, inr (reason, remounts, is))) = remounts.device
 
-  pub are_after : (place : ℕ) (before after : List (NodeModel D)) → AreNodes seen cluster before → IsHandledAt seen left_since cluster place msg reply before after → AreNodes seen cluster after
-  are_after place before after are once = subst (AreNodes seen cluster) (sym once.others) (record {
-    each = map-set_same (λ (node : NodeModel D). node.device) before place once.new once.old
-        (same_device once.old once.new once.handles ∙ ap (λ (node : NodeModel D). node.device) (sym (get_or_from_slice_get before place once.old once.old once.at))) ∙ are.each;
-    are = All-set (IsNode cluster seen) before place once.new once.is_node are.are;
+  pub are_after : (slot : ℕ) (before after : List (NodeModel D)) → AreNodes seen cluster before → IsHandledAt seen left_since cluster slot msg reply before after → AreNodes seen cluster after
+  are_after slot before after are once = subst (AreNodes seen cluster) (sym once.others) (record {
+    each = map-set_same (λ (node : NodeModel D). node.device) before slot once.new once.old
+        (same_device once.old once.new once.handles ∙ ap (λ (node : NodeModel D). node.device) (sym (get_or_from_slice_get before slot once.old once.old once.at))) ∙ are.each;
+    are = All-set (IsNode cluster seen) before slot once.new once.is_node are.are;
   })

@@ -1,4 +1,4 @@
--- The node of a device, at the place of its device in the cluster.
+-- The node of a device, at the slot of its device in the cluster.
 use Rattle.std.proofs.Common.{◌≡◌, ℕ, ◌<◌, ◌==◌, ◌||◌, Bool, true, List, [], ◌∷◌, length, get_or, map, Option, None, Some, refl, sym, ap, ◌∙◌, arith}
 use Rattle.std.specs.Prelude.{IfSome, IsSome, is_some}
 use Rattle.std.specs.List.{list_any, position, slice_get}
@@ -12,7 +12,7 @@ use Rattle.sw_ring.specs.Rules.{device_ids}
 use Rattle.sw_ring.specs.declared.device.Device.{Device}
 use Rattle.sw_message.specs.Message.{IsMember}
 use Rattle.sw_objsrv.specs.Node.{NodeModel}
-use Rattle.sw_objsrv.proofs.Roles.{position_any}
+use Rattle.sw_ring.proofs.Positions.{position_any}
 use Rattle.sw_direct.specs.Direct.{AreNodes}
 
 -- some device has an id where it is among theirs
@@ -27,35 +27,35 @@ module _ {D : Type 0} (seen : D → Seen) (cluster : ClusterModel) (nodes : List
   abbrev has_id : Device → Bool
   has_id other = other.id == device
 
-  -- a device of the cluster has a place among its devices
+  -- a device of the cluster has a slot among its devices
   pub placed : IsMember cluster device → IsSome (position has_id cluster.devices)
   placed member = some (position has_id cluster.devices) (position_any has_id cluster.devices ∙ sym (any_id device cluster.devices) ∙ member)
     where
       some : (found : Option ℕ) → is_some found ≡ true → IsSome found
       some None is = absurd (cc)
-      some (Some place) is = refl
+      some (Some slot) is = refl
 
   -- and there its node
-  node_there : (place : ℕ) → position has_id cluster.devices ≡ Some place → (node : NodeModel D) × (slice_get nodes place ≡ Some node) × (node.device ≡ device)
-  node_there place is = at_place nodes refl
+  node_there : (slot : ℕ) → position has_id cluster.devices ≡ Some slot → (node : NodeModel D) × (slice_get nodes slot ≡ Some node) × (node.device ≡ device)
+  node_there slot is = at_slot nodes refl
     where
-      within : (d : Device) → (place < length cluster.devices) × (has_id (get_or cluster.devices place d) ≡ true)
-      within d = let at = position-Some has_id cluster.devices place d is in (at.0, at.1)
+      within : (d : Device) → (slot < length cluster.devices) × (has_id (get_or cluster.devices slot d) ≡ true)
+      within d = let at = position-Some has_id cluster.devices slot d is in (at.0, at.1)
 
-      counted : (d : Device) → place < length nodes
+      counted : (d : Device) → slot < length nodes
       counted d = omega (arith, (within d).0, length-map nodes device_in, length-map cluster.devices (λ (other : Device). other.id), ap length are.each)
 
-      at_place : (all : List (NodeModel D)) → nodes ≡ all → (node : NodeModel D) × (slice_get nodes place ≡ Some node) × (node.device ≡ device)
-      at_place [] none = absurd (omega (arith, counted (record { id = 0; capacity = 0 }), ap length none))
-      at_place (first ∷ all) is_there =
+      at_slot : (all : List (NodeModel D)) → nodes ≡ all → (node : NodeModel D) × (slice_get nodes slot ≡ Some node) × (node.device ≡ device)
+      at_slot [] none = absurd (omega (arith, counted (record { id = 0; capacity = 0 }), ap length none))
+      at_slot (first ∷ all) is_there =
           let d : Device = record { id = first.device; capacity = 0 } in
-          let node = get_or nodes place first in
+          let node = get_or nodes slot first in
           let here = counted d in
-          let ids : get_or (map device_in nodes) place first.device ≡ get_or (ids_of cluster) place first.device = ap (λ (ids : List ℕ). get_or ids place first.device) are.each in
-          let mine : get_or (map device_in nodes) place first.device ≡ node.device = get_or-map device_in nodes place first first.device here in
-          let other : get_or (ids_of cluster) place first.device ≡ (get_or cluster.devices place d).id = get_or-map (λ (other : Device). other.id) cluster.devices place d first.device (within d).0 in
-          (node, slice_get-get_or nodes place first here, sym mine ∙ ids ∙ other ∙ eqb-true _ _ (within d).1)
+          let ids : get_or (map device_in nodes) slot first.device ≡ get_or (ids_of cluster) slot first.device = ap (λ (ids : List ℕ). get_or ids slot first.device) are.each in
+          let mine : get_or (map device_in nodes) slot first.device ≡ node.device = get_or-map device_in nodes slot first first.device here in
+          let other : get_or (ids_of cluster) slot first.device ≡ (get_or cluster.devices slot d).id = get_or-map (λ (other : Device). other.id) cluster.devices slot d first.device (within d).0 in
+          (node, slice_get-get_or nodes slot first here, sym mine ∙ ids ∙ other ∙ eqb-true _ _ (within d).1)
 
-  pub there : (found : Option ℕ) → found ≡ position has_id cluster.devices → IfSome found (λ place. (node : NodeModel D) × (slice_get nodes place ≡ Some node) × (node.device ≡ device))
+  pub there : (found : Option ℕ) → found ≡ position has_id cluster.devices → IfSome found (λ slot. (node : NodeModel D) × (slice_get nodes slot ≡ Some node) × (node.device ≡ device))
   there None is = tt
-  there (Some place) is = node_there place (sym is)
+  there (Some slot) is = node_there slot (sym is)

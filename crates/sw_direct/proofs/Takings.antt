@@ -59,11 +59,11 @@ module _ {D S : Type 0} (seen : D → Seen) (left_since : D → Past) (hands : H
       ap (λ (n : ℕ). with_faults seen n nodes) (ap (λ (faults : ℕ). after_back faults count) (All-head P node nodes all)) ∙ no_fault count nodes (All-tail P node nodes all)
 
 -- a device of a cluster
-pub is_member : (cluster : ClusterModel) (devices : List Device) (place : ℕ) (none : Device) → devices ≡ cluster.devices → place < length devices → IsMember cluster (get_or devices place none).id
-is_member cluster devices place none listed within =
-    let device = get_or devices place none in
-    let at : slice_get devices place ≡ Some device = slice_get-get_or devices place none within in
-    let there : Contains (device_ids devices) device.id = Contains-map (λ (d : Device). d.id) devices device (place, within, get_or_from_slice_get devices place device device at) in
+pub is_member : (cluster : ClusterModel) (devices : List Device) (slot : ℕ) (none : Device) → devices ≡ cluster.devices → slot < length devices → IsMember cluster (get_or devices slot none).id
+is_member cluster devices slot none listed within =
+    let device = get_or devices slot none in
+    let at : slice_get devices slot ≡ Some device = slice_get-get_or devices slot none within in
+    let there : Contains (device_ids devices) device.id = Contains-map (λ (d : Device). d.id) devices device (slot, within, get_or_from_slice_get devices slot device device at) in
     among-from_Contains (ids_of cluster) device.id (subst (λ (all : List Device). Contains (device_ids all) device.id) listed there)
 
 -- a count of so few rises by one

@@ -12,7 +12,7 @@ use Rattle.sw_message.specs.declared.message.Msg.{Msg}
 use Rattle.sw_message.specs.declared.reply.Reply.{Reply}
 use Rattle.sw_message.specs.declared.reply.Reply.TheVariants.{NoMemory}
 use Rattle.sw_objsrv.specs.Node.{HandlesWhenMounted, IsNode, NodeModel}
-use Rattle.sw_scene.specs.Moves.{next_stamp}
+use Rattle.sw_law_scene.specs.Moves.{next_stamp}
 
 pub record DirectModel (D C : Type 0) : Type 0 where
   pub cluster : ClusterModel
@@ -37,18 +37,18 @@ wants_memory NoMemory = true
 wants_memory other = false
 
 -- One of these nodes handled a message, and the others are as they were.
-pub record IsHandledAt {D : Type 0} (seen : D → Seen) (left_since : D → Past) (cluster : ClusterModel) (place : ℕ) (msg : Msg) (reply : Reply) (before after : List (NodeModel D)) : Type 0 where
+pub record IsHandledAt {D : Type 0} (seen : D → Seen) (left_since : D → Past) (cluster : ClusterModel) (slot : ℕ) (msg : Msg) (reply : Reply) (before after : List (NodeModel D)) : Type 0 where
   pub old : NodeModel D
   pub new : NodeModel D
-  pub at : slice_get before place ≡ Some old
+  pub at : slice_get before slot ≡ Some old
   pub handles : HandlesWhenMounted seen left_since cluster msg reply old new
   pub is_node : IsNode cluster seen new
-  pub others : after ≡ slice_set before place new
+  pub others : after ≡ slice_set before slot new
 
 -- The node of a device handled a message, once, and what it replied is the answer.
 pub record Handles {D C : Type 0} (seen : D → Seen) (left_since : D → Past) (before : DirectModel D C) (device : ℕ) (msg : Msg) (reply : Reply) (after : DirectModel D C) : Type 0 where
-  pub place : ℕ
-  pub once : IsHandledAt seen left_since before.cluster place msg reply before.nodes after.nodes
+  pub slot : ℕ
+  pub once : IsHandledAt seen left_since before.cluster slot msg reply before.nodes after.nodes
   pub mine : once.old.device ≡ device
   pub after_is : after ≡ record before { nodes = after.nodes; wants = before.wants || wants_memory reply }
 

@@ -5,7 +5,7 @@ ghost use Rattle.std.specs.List.{All};
 ghost use Rattle.sw_types.specs.Stamp.{greatest_stamp};
 ghost use Rattle.sw_message.specs.Message.{IsMember, IsPlaceOf, place_in};
 ghost use Rattle.sw_objsrv.specs.Node.{IsNode, NodeModel};
-ghost use Rattle.sw_scene.specs.Moves.{next_stamp};
+ghost use Rattle.sw_law_scene.specs.Moves.{next_stamp};
 ghost use Rattle.sw_direct.specs.Direct.{AreNodes, Calls, DirectModel, Draws, IsHandledAt, wants_memory};
 
 use std::alloc::Global;
@@ -81,10 +81,10 @@ impl<'a, D: Disk, C: Clock> DirectLink<'a, D, C> {
         self.nodes
     }
 
-    // The place of a device's node.
-    fn place_of(&self, device: u16) -> Option<usize>
+    // The slot of a device's node.
+    fn slot_of(&self, device: u16) -> Option<usize>
         ensures known { IsMember self.now.cluster device → IsSome result }
-        ensures place { IfSome result (λ place. (node : NodeModel D) × (slice_get self.now.nodes place ≡ Some node) × (node.device ≡ device)) }
+        ensures slot { IfSome result (λ slot. (node : NodeModel D) × (slice_get self.now.nodes slot ≡ Some node) × (node.device ≡ device)) }
     {
         place_in(self.cluster.devices(), device)
     }
@@ -104,8 +104,8 @@ impl<'a, D: Disk, C: Clock> Link for DirectLink<'a, D, C> {
     ghost sound = { λ it. tt };
 
     fn call(&mut self, device: u16, msg: &Msg) -> Option<Reply> {
-        let place = self.place_of(device).unwrap();
-        let reply = handle_at(self.alloc, self.cluster, &mut self.nodes, place, msg);
+        let slot = self.slot_of(device).unwrap();
+        let reply = handle_at(self.alloc, self.cluster, &mut self.nodes, slot, msg);
         self.wants = self.wants || wants_memory(&reply);
         Some(reply)
     }
@@ -142,27 +142,27 @@ fn next_stamp(clock: Stamp, last: Option<Stamp>) -> Option<Stamp>
     }
 }
 
-// The place of a device among some, where it is there.
+// The slot of a device among some, where it is there.
 fn place_in(devices: &[Device], id: u16) -> Option<usize>
     ensures { result ≡ position (λ device. device.id == id) devices.now }
 {
     devices.iter().position(|device| device.id == id)
 }
 
-// Has the node at a place handle a message.
+// Has the node at a slot handle a message.
 fn handle_at<D: Disk>(
     alloc: Global,
     cluster: &Cluster,
     nodes: &mut [Node<D>],
-    place: usize,
+    slot: usize,
     msg: &Msg,
 ) -> Reply
-    requires at { place < length nodes.old }
+    requires at { slot < length nodes.old }
     requires are { All (IsNode cluster.now D.seen) nodes.old }
     requires of { IsPlaceOf cluster.now (place_in msg.now) }
-    ensures { IsHandledAt D.seen D.left_since cluster.now place msg.now result nodes.old nodes.new }
+    ensures { IsHandledAt D.seen D.left_since cluster.now slot msg.now result nodes.old nodes.new }
 {
-    let node = &mut nodes[place];
+    let node = &mut nodes[slot];
     node.handle(alloc, cluster, msg)
 }
 

@@ -7,7 +7,7 @@ use Rattle.sw_hashpath.specs.FileName.{IsFileName}
 use Rattle.sw_hashpath.specs.declared.file_name.FileName.{FileName}
 use Rattle.sw_hashpath.specs.declared.file_name.FileName.TheVariants.{Data, Tombstone}
 use Rattle.sw_hashdir.specs.Directory.{IsDirectory, IsFloor}
-use Rattle.sw_hashdir.specs.Laws.{one_floor}
+use Rattle.sw_hashdir.proofs.Laws.{one_floor}
 use Rattle.sw_hashdir.specs.Obsolete.{IsBelow, IsBelowFloor, IsObsolete, IsTwin}
 use Rattle.sw_hashdir.specs.declared.floor.Floor.{Floor}
 use Rattle.sw_hashdir.proofs.Texts.{one_text}

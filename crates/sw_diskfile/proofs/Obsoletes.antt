@@ -4,7 +4,7 @@ use Rattle.std.proofs.lemmas.Bool.{cases_eq, cases_order}
 use Rattle.sw_hashpath.specs.declared.file_name.FileName.{FileName}
 use Rattle.sw_hashpath.specs.declared.file_name.FileName.TheVariants.{Data, Tombstone}
 use Rattle.sw_hashdir.specs.Directory.{HasFloor, HasFloorAt, IsAbove, IsDirectory, IsFloor}
-use Rattle.sw_hashdir.specs.Laws.{twin_more}
+use Rattle.sw_hashdir.proofs.Laws.{twin_more}
 use Rattle.sw_hashdir.specs.Obsolete.{IsBelow, IsBelowFloor, IsObsolete, IsTwin, IsWithout}
 use Rattle.sw_hashdir.specs.declared.floor.Floor.{Floor}
 use Rattle.sw_hashdir.specs.declared.floor.FloorKind.{FloorKind}

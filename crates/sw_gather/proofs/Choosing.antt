@@ -13,7 +13,7 @@ use Rattle.std.proofs.lemmas.List.Folds.{find-append}
 use Rattle.sw_hashdir.specs.Listing.{ListingModel}
 use Rattle.sw_hashdir.specs.declared.entry.Entry.{Entry}
 use Rattle.sw_hashdir.specs.declared.floor.Floor.{Floor}
-use Rattle.sw_message.specs.FloorLaws.{highest_from-append}
+use Rattle.sw_message.proofs.FloorLaws.{highest_from-append}
 use Rattle.sw_message.specs.Floors.{floors_in, highest_from}
 use Rattle.sw_message.specs.declared.target.Target.{Target}
 use Rattle.sw_gather.specs.Choices.{entry_target, firsts, has_index, is_listed, listed_at}

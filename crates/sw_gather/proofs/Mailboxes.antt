@@ -5,10 +5,11 @@ use Rattle.std.specs.List.{slice_get}
 use Rattle.std.proofs.lemmas.List.Elements.{All-weaker}
 use Rattle.std.proofs.lemmas.List.Kept.{AllPairs-cons, AllPairs-filter}
 use Rattle.sw_message.specs.Tickets.{AreTickets}
-use Rattle.sw_message.specs.Transcript.{Gave, Step, Told, given, is_not, open_at, opens, told}
+use Rattle.sw_message.specs.Transcript.{Closed, Gave, Step, after_answer, given, is_not, open_at, opens}
 use Rattle.sw_message.specs.declared.reply.Reply.{Reply}
 use Rattle.sw_message.specs.declared.sent.Sent.{Sent}
-use Rattle.sw_quorum.specs.Transcripts.{HasOther, found, one_fewer, some_at, some_found, told-ignored, told-open}
+use Rattle.sw_quorum.proofs.Transcripts.{found, one_fewer, some_at, some_found, told-ignored, told-open}
+use Rattle.sw_quorum.specs.Transcripts.{HasOther}
 use Rattle.sw_gather.specs.Mailbox.{GoesWith, MailboxModel, Unread, answer_to}
 use Rattle.sw_gather.proofs.Lists.{slice_get_some}
 
@@ -50,9 +51,9 @@ module _ {E : Type 0} (mailbox : MailboxModel E) (past : List Step) (goes : Goes
       let sent = some_at (open_at ticket past) some in
       omega (arith, goes.waiting_is, some_found ticket (opens past) sent.0 sent.1)
 
-  module _ (after : MailboxModel E) (answer : Option Reply) (are : AreTickets after.tickets (told past ticket answer))
+  module _ (after : MailboxModel E) (answer : Option Reply) (are : AreTickets after.tickets (after_answer past ticket answer))
       (count : length after.tickets ≡ length mailbox.tickets) (errands : length after.errands ≡ length mailbox.errands) where
-    answered : (sent : Sent) → open_at ticket past ≡ Some sent → after.waiting + 1 ≡ mailbox.waiting → AreTickets after.tickets (Told sent answer ∷ past) → GoesWith after (Told sent answer ∷ past)
+    answered : (sent : Sent) → open_at ticket past ≡ Some sent → after.waiting + 1 ≡ mailbox.waiting → AreTickets after.tickets (Closed sent answer ∷ past) → GoesWith after (Closed sent answer ∷ past)
     answered sent is waiting these =
         let at : open_at sent.ticket past ≡ Some sent = ap (λ n. open_at n past) (ticket_is sent is).1 ∙ is in
         record {
@@ -62,13 +63,13 @@ module _ {E : Type 0} (mailbox : MailboxModel E) (past : List Step) (goes : Goes
           errands_are = omega (arith, goes.errands_are, count, errands);
         }
 
-    pub put_in : is_some (open_at ticket past) ≡ true → after.waiting + 1 ≡ mailbox.waiting → GoesWith after (told past ticket answer)
+    pub put_in : is_some (open_at ticket past) ≡ true → after.waiting + 1 ≡ mailbox.waiting → GoesWith after (after_answer past ticket answer)
     put_in some waiting =
         let sent = some_at (open_at ticket past) some in
         let path = told-open past ticket answer sent.0 sent.1 in
         subst (GoesWith after) (sym path) (answered sent.0 sent.1 waiting (subst (AreTickets after.tickets) path are))
 
-    pub left_out : is_some (open_at ticket past) ≡ false → after.waiting ≡ mailbox.waiting → GoesWith after (told past ticket answer)
+    pub left_out : is_some (open_at ticket past) ≡ false → after.waiting ≡ mailbox.waiting → GoesWith after (after_answer past ticket answer)
     left_out none waiting =
         let path = ignored (open_at ticket past) refl none in
         subst (GoesWith after) (sym path) (record {
@@ -78,7 +79,7 @@ module _ {E : Type 0} (mailbox : MailboxModel E) (past : List Step) (goes : Goes
           errands_are = omega (arith, goes.errands_are, count, errands);
         })
       where
-        ignored : (opened : Option Sent) → open_at ticket past ≡ opened → is_some opened ≡ false → told past ticket answer ≡ past
+        ignored : (opened : Option Sent) → open_at ticket past ≡ opened → is_some opened ≡ false → after_answer past ticket answer ≡ past
         ignored None is none = told-ignored past ticket answer is
         ignored (Some sent) is none = absurd (cc)
 

@@ -2,7 +2,7 @@
 
 ghost use Rattle.std.specs.Prelude.{◌≡◌, ◌+◌, ◌<◌, ◌++◌, ◌∷◌, [], List, Some, IfOk, IsSome, MatchOption, OnErr, drop, length, nat_lt, slice_get};
 ghost use Rattle.std.specs.VecDeque.{deque_capacity, deque_len};
-ghost use Rattle.sw_message.specs.Transcript.{Gave, Step, open_at, told};
+ghost use Rattle.sw_message.specs.Transcript.{Gave, Step, after_answer, open_at};
 ghost use Rattle.sw_message.specs.declared.sent.Sent.{Sent as ASent};
 ghost use Rattle.sw_gather.specs.Mailbox.{GoesWith, IsOneMore, Unread, answer_to};
 
@@ -69,7 +69,7 @@ impl<E: Copy> Mailbox<E> {
 
     /// Takes the answer to a ticket, or that there is none. A ticket that is not open is ignored. It takes no memory.
     pub fn take(&mut self, ticket: u64, answer: Option<Reply>)
-        ensures goes_with { (past : List Step) → GoesWith self.old past → GoesWith self.new (told past ticket answer) }
+        ensures goes_with { (past : List Step) → GoesWith self.old past → GoesWith self.new (after_answer past ticket answer) }
         ensures taken { (past : List Step) → GoesWith self.old past → MatchOption (open_at ticket past)
             (self.new.unread ≡ self.old.unread)
             (λ sent. (errand : E) × (slice_get self.old.errands sent.ticket ≡ Some errand) × (self.new.unread ≡ self.old.unread ++ (errand, answer) ∷ [])) }

@@ -8,10 +8,10 @@ use Rattle.std.proofs.lemmas.List.Elements.{All-cons, All-filter, All-weaker}
 use Rattle.std.proofs.lemmas.Option.{none-some, same_Some}
 use Rattle.sw_types.specs.Object.{ObjectModel}
 use Rattle.sw_hashdir.specs.declared.floor.Floor.{Floor}
-use Rattle.sw_message.specs.Transcript.{Gave, Hand, Next, Step, Told, is_not, is_waiting, open_at, opens, told}
+use Rattle.sw_message.specs.Transcript.{Closed, Gave, Hand, Next, Step, after_answer, is_not, is_waiting, open_at, opens}
 use Rattle.sw_message.specs.declared.reply.Reply.{Reply}
 use Rattle.sw_message.specs.declared.sent.Sent.{Sent}
-use Rattle.sw_quorum.specs.Transcripts.{found, run-told, told-ignored, told-open, waiting-some}
+use Rattle.sw_quorum.proofs.Transcripts.{found, run-told, told-ignored, told-open, waiting-some}
 use Rattle.sw_get.specs.Get.{AreTurns, Begun, EndsAfter, Hears, IsEnd, IsMeant, IsNext, Sends, devices, from_in, going_in, next_after, sends}
 use Rattle.sw_gather.specs.Mailbox.{GoesWith, MailboxModel, Unread}
 use Rattle.sw_get.specs.Meaning.{Meaning}
@@ -29,9 +29,9 @@ use Rattle.sw_get.proofs.Turns.{sends-given}
 
 -- one answer more is to be read
 lead-snoc : (begun : Begun) (unread : List (Unread Errand)) (read past : List Step) (errand : Errand) (answer : Option Reply) (sent : Sent) → IsErrand begun errand sent → Lead begun unread read past
-    → Lead begun (unread ++ (errand, answer) ∷ []) read (Told sent answer ∷ past)
-lead-snoc begun [] read past errand answer sent is leads = (sent, is, ap (λ path. Told sent answer ∷ path) leads)
-lead-snoc begun (one ∷ later) read past errand answer sent is leads = (leads.0, leads.1, lead-snoc begun later (Told leads.0 one.1 ∷ read) past errand answer sent is leads.2)
+    → Lead begun (unread ++ (errand, answer) ∷ []) read (Closed sent answer ∷ past)
+lead-snoc begun [] read past errand answer sent is leads = (sent, is, ap (λ path. Closed sent answer ∷ path) leads)
+lead-snoc begun (one ∷ later) read past errand answer sent is leads = (leads.0, leads.1, lead-snoc begun later (Closed leads.0 one.1 ∷ read) past errand answer sent is leads.2)
 
 -- ---- nothing is open
 
@@ -73,7 +73,7 @@ module _ (get : GetModel) (begun : Begun) (past : List Step) (stands : Stands ge
     }
 
     taken : (ticket : ℕ) (answer : Option Reply) (sent : Sent) (errand : Errand) → open_at ticket past ≡ Some sent → slice_get get.mailbox.errands sent.ticket ≡ Some errand
-        → mailbox.unread ≡ get.mailbox.unread ++ (errand, answer) ∷ [] → GoesWith mailbox (Told sent answer ∷ past) → Stands (record get { mailbox = mailbox }) begun (Told sent answer ∷ past)
+        → mailbox.unread ≡ get.mailbox.unread ++ (errand, answer) ∷ [] → GoesWith mailbox (Closed sent answer ∷ past) → Stands (record get { mailbox = mailbox }) begun (Closed sent answer ∷ past)
     taken ticket answer sent errand is at more goes =
         let own = found (IsOpen begun get.mailbox.errands) ticket (opens past) sent is stands.opened in
         let this : IsErrand begun errand sent = subst (λ one. IsErrand begun one sent) (same_Some own.0.errand errand (sym own.0.at ∙ at)) own.0.is in
@@ -82,15 +82,15 @@ module _ (get : GetModel) (begun : Begun) (past : List Step) (stands : Stands ge
           run = run-told (IsNext begun) past ticket answer sent is stands.run;
           subject_is = stands.subject_is;
           goes_with = goes;
-          opened = subst (λ errands. All (IsOpen begun errands) (opens (Told sent answer ∷ past))) (sym same_errands)
+          opened = subst (λ errands. All (IsOpen begun errands) (opens (Closed sent answer ∷ past))) (sym same_errands)
               (All-filter (is_not sent.ticket) (IsOpen begun get.mailbox.errands) (opens past) stands.opened);
           read = stands.read;
           turns = stands.turns;
           reads = stands.reads;
-          leads = subst (λ unread. Lead begun unread stands.read (Told sent answer ∷ past)) (sym more)
+          leads = subst (λ unread. Lead begun unread stands.read (Closed sent answer ∷ past)) (sym more)
               (lead-snoc begun get.mailbox.unread stands.read past errand answer sent this stands.leads);
           finds = stands.finds;
-          counted = subst (λ unread. AreCounted get.findings.facts unread (opens (Told sent answer ∷ past))) (sym more)
+          counted = subst (λ unread. AreCounted get.findings.facts unread (opens (Closed sent answer ∷ past))) (sym more)
               (counted-taken get.findings.facts (opens past) begun get.mailbox.unread errand answer sent this (ap (λ n. open_at n past) own.1 ∙ is) stands.goes_with.apart stands.counted);
           object_is = stands.object_is;
           end_is = λ end ends.
@@ -100,7 +100,7 @@ module _ (get : GetModel) (begun : Begun) (past : List Step) (stands : Stands ge
 
     told_at : (ticket : ℕ) (answer : Option Reply) (opened : Option Sent) → open_at ticket past ≡ opened
         → MatchOption opened (mailbox.unread ≡ get.mailbox.unread) (λ sent. (one : Errand) × (slice_get get.mailbox.errands sent.ticket ≡ Some one) × (mailbox.unread ≡ get.mailbox.unread ++ (one, answer) ∷ []))
-        → GoesWith mailbox (told past ticket answer) → Stands (record get { mailbox = mailbox }) begun (told past ticket answer)
+        → GoesWith mailbox (after_answer past ticket answer) → Stands (record get { mailbox = mailbox }) begun (after_answer past ticket answer)
     told_at ticket answer None is same goes =
         let path = told-ignored past ticket answer is in
         subst (Stands (record get { mailbox = mailbox }) begun) (sym path) (ignored (subst (GoesWith mailbox) path goes) same)
@@ -108,8 +108,8 @@ module _ (get : GetModel) (begun : Begun) (past : List Step) (stands : Stands ge
         let path = told-open past ticket answer sent is in
         subst (Stands (record get { mailbox = mailbox }) begun) (sym path) (taken ticket answer sent more.0 is more.1 more.2 (subst (GoesWith mailbox) path goes))
 
-    pub stands_told : (ticket : ℕ) (answer : Option Reply) → Taken get.mailbox past ticket answer mailbox.unread → GoesWith mailbox (told past ticket answer)
-        → Stands (record get { mailbox = mailbox }) begun (told past ticket answer)
+    pub stands_told : (ticket : ℕ) (answer : Option Reply) → Taken get.mailbox past ticket answer mailbox.unread → GoesWith mailbox (after_answer past ticket answer)
+        → Stands (record get { mailbox = mailbox }) begun (after_answer past ticket answer)
     stands_told ticket answer is goes = told_at ticket answer (open_at ticket past) refl is goes
 
   -- ---- an answer is read
@@ -129,7 +129,7 @@ module _ (get : GetModel) (begun : Begun) (past : List Step) (stands : Stands ge
         subject_is = stands.subject_is;
         goes_with = record { tickets_are = stands.goes_with.tickets_are; apart = stands.goes_with.apart; waiting_is = stands.goes_with.waiting_is; errands_are = stands.goes_with.errands_are };
         opened = stands.opened;
-        read = Told leads.0 answer ∷ stands.read;
+        read = Closed leads.0 answer ∷ stands.read;
         turns = Hears leads.0 meaning ∷ stands.turns;
         reads = (refl, meant.0, stands.reads);
         leads = leads.2;

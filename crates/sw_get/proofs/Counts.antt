@@ -9,7 +9,8 @@ use Rattle.sw_message.specs.declared.message.Msg.{Msg}
 use Rattle.sw_message.specs.declared.reply.Reply.{Reply}
 use Rattle.sw_message.specs.declared.sent.Sent.{Sent}
 use Rattle.sw_message.specs.declared.target.Target.{Target}
-use Rattle.sw_quorum.specs.Transcripts.{HasOther, all-kept, has_ticket}
+use Rattle.sw_quorum.proofs.Transcripts.{all-kept}
+use Rattle.sw_quorum.specs.Transcripts.{HasOther, has_ticket}
 use Rattle.sw_get.specs.Get.{Begun, ask_message, count_ask, fetch_message, is_ask}
 use Rattle.sw_gather.specs.Mailbox.{Unread}
 use Rattle.sw_get.specs.Meaning.{Brings, Lacks, Lists, Meaning, Misses, asked_meaning, with_asked, with_fetched}

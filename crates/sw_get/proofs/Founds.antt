@@ -19,7 +19,7 @@ use Rattle.sw_archive.proofs.Objects.{no_archive, object_of_put, some_archive}
 use Rattle.sw_message.specs.Floors.{durable_at}
 use Rattle.sw_message.specs.Learnt.{AreKnown, Booked, KnowsReply, Learnt}
 use Rattle.sw_message.specs.Targets.{ascending, is_before, with_target}
-use Rattle.sw_message.specs.Transcript.{Gave, IsRun, Step, Told}
+use Rattle.sw_message.specs.Transcript.{Closed, Gave, IsRun, Step}
 use Rattle.sw_message.specs.declared.reply.Reply.TheVariants as reply
 use Rattle.sw_message.specs.declared.target.Target.{Target}
 use Rattle.sw_get.specs.Causes.{HasTarget, IsBook, IsPutFound, IsSource, LastRound}
@@ -110,12 +110,12 @@ sources_apart (source ∷ sources) (archive ∷ archives) same pairs =
 
 abbrev KnownStep : Begun → Learnt → Step → Type 0
 KnownStep begun learnt (Gave sent) = Unit {0}
-KnownStep begun learnt (Told sent answer) = KnowsReply begun.cluster learnt sent.device sent.msg answer
+KnownStep begun learnt (Closed sent answer) = KnowsReply begun.cluster learnt sent.device sent.msg answer
 
 known_steps : (begun : Begun) (learnt : Learnt) (past : List Step) → AreKnown begun.cluster learnt past → All (KnownStep begun learnt) past
 known_steps begun learnt [] known = All-nil (KnownStep begun learnt)
 known_steps begun learnt (Gave sent ∷ past) known = All-cons (KnownStep begun learnt) (Gave sent) past tt (known_steps begun learnt past known)
-known_steps begun learnt (Told sent answer ∷ past) known = All-cons (KnownStep begun learnt) (Told sent answer) past known.0 (known_steps begun learnt past known.1)
+known_steps begun learnt (Closed sent answer ∷ past) known = All-cons (KnownStep begun learnt) (Closed sent answer) past known.0 (known_steps begun learnt past known.1)
 
 known_at : (begun : Begun) (learnt : Learnt) (past : List Step) (step : Step) → AreKnown begun.cluster learnt past → Contains past step → KnownStep begun learnt step
 known_at begun learnt past step known is = subst (KnownStep begun learnt) is.2 (known_steps begun learnt past known is.0 step is.1)
@@ -132,13 +132,13 @@ module _ (begun : Begun) (past : List Step) (learnt : Learnt) (known : AreKnown 
     index : archive.index ≡ source.index
     ticket : ℕ
     bytes : List ℕ
-    told : Contains past (Told (fetch_message begun ticket to.stamp source) (Some (reply.Fragment bytes)))
+    told : Contains past (Closed (fetch_message begun ticket to.stamp source) (Some (reply.Fragment bytes)))
     spelled : bytes ≡ archive_bytes archive
 
   put_of : (source : Target) (archive : ArchiveModel) → IsBrought begun past from facts source archive → (booked : Booked) × Contains learnt.book booked × IsOfPutAt booked source archive
   put_of source archive is =
       let same : is.to ≡ to = same_Some is.to to (sym is.target ∙ target) in
-      let genuine = (known_at begun learnt past (Told (fetch_message begun is.ticket is.to.stamp source) (Some (reply.Fragment is.bytes))) known is.told).1 archive is.wanted.0 in
+      let genuine = (known_at begun learnt past (Closed (fetch_message begun is.ticket is.to.stamp source) (Some (reply.Fragment is.bytes))) known is.told).1 archive is.wanted.0 in
       let asked = is.wanted.1 in (
         genuine.0,
         genuine.1,
@@ -150,7 +150,7 @@ module _ (begun : Begun) (past : List Step) (learnt : Learnt) (known : AreKnown 
           index = asked.index_is;
           ticket = is.ticket;
           bytes = is.bytes;
-          told = subst (λ (floor : Floor). Contains past (Told (fetch_message begun is.ticket floor.stamp source) (Some (reply.Fragment is.bytes)))) same is.told;
+          told = subst (λ (floor : Floor). Contains past (Closed (fetch_message begun is.ticket floor.stamp source) (Some (reply.Fragment is.bytes)))) same is.told;
           spelled = is.wanted.0.spelled;
         },
       )

@@ -12,7 +12,7 @@ use Rattle.sw_hashdir.specs.declared.floor.FloorKind.TheVariants.{Durable, Tombs
 use Rattle.sw_message.specs.Floors.{durable_at, tombstone_floor}
 use Rattle.sw_message.specs.declared.miss.Miss.{Miss}
 use Rattle.sw_message.specs.declared.target.Target.{Target}
-use Rattle.sw_quorum.specs.Lookups.{slice_get_none}
+use Rattle.sw_quorum.proofs.Lookups.{slice_get_none}
 use Rattle.sw_get.specs.Round.{Devices, Facts, all_devices, ask_or, asked_going, candidates, choices_going, closed, fetch_going, fetch_or, few_going, is_empty, is_free, lost, next_source, ran_out, risen_or, rises, round_going, target_going, target_of}
 use Rattle.sw_gather.specs.Choices.{firsts}
 use Rattle.sw_get.specs.declared.round_end.Going.{Going}

@@ -12,7 +12,7 @@ use Rattle.sw_message.specs.Transcript.{Gave, Hand, Over, Step, opens}
 use Rattle.sw_message.specs.declared.message.Msg.TheVariants as message
 use Rattle.sw_message.specs.declared.sent.Sent.{Sent}
 use Rattle.sw_message.specs.declared.target.Target.{Target}
-use Rattle.sw_quorum.specs.Places.{place_right}
+use Rattle.sw_quorum.proofs.Places.{place_right}
 use Rattle.sw_get.specs.Get.{Begun, IsNext, ask_first, ask_message, devices, events, fetch_message, most_kept, place_of, sends}
 use Rattle.sw_gather.specs.Mailbox.{GoesWith, MailboxModel}
 use Rattle.sw_get.specs.Round.{Facts, all_devices, no_facts}

@@ -14,10 +14,10 @@ use Rattle.sw_hashdir.specs.declared.floor.FloorKind.TheVariants.{Durable}
 use Rattle.sw_ring.specs.Cluster.{column_of, ids_of}
 use Rattle.sw_ring.specs.Ring.{is_among}
 use Rattle.sw_ring.proofs.Among.{Contains-cons, Contains-from_among}
-use Rattle.sw_message.specs.FloorLaws.{highest_from-append}
+use Rattle.sw_message.proofs.FloorLaws.{highest_from-append}
 use Rattle.sw_message.specs.Floors.{IsHighest, durable_at, is_above}
 use Rattle.sw_message.specs.Message.{IsMember}
-use Rattle.sw_message.specs.Transcript.{Gave, Hand, IsRun, Step, Told, opens}
+use Rattle.sw_message.specs.Transcript.{Closed, Gave, Hand, IsRun, Step, opens}
 use Rattle.sw_message.specs.declared.message.Msg.{Msg}
 use Rattle.sw_message.specs.declared.reply.Reply.TheVariants as reply
 use Rattle.sw_message.specs.declared.sent.Sent.{Sent}
@@ -245,7 +245,7 @@ module _ (begun : Begun) (valid : IsBegun begun) (past : List Step) (run : IsRun
         listed = subst (λ n. ListsAt policy known.lists n source) same gone.2;
         ticket = gone.3;
         listing = gone.4;
-        told = subst (λ n. Contains past (Told (fetch_message begun gone.3 n source) (Some (reply.Gone gone.4)))) same gone.5;
+        told = subst (λ n. Contains past (Closed (fetch_message begun gone.3 n source) (Some (reply.Gone gone.4)))) same gone.5;
       }
   event_so (Rose start to) is =
       let at : target_of (from_in begun turns) known ≡ Some (durable_at is.stamp) = is.target ∙ ap (λ (floor : Floor). Some floor) is.durable in
@@ -270,7 +270,7 @@ event_more begun past step turns (Gone device index) is = record {
   listed = is.listed;
   ticket = is.ticket;
   listing = is.listing;
-  told = Contains-cons (Told (fetch_message begun is.ticket is.stamp (record { index = index; device = device })) (Some (reply.Gone is.listing))) step past is.told;
+  told = Contains-cons (Closed (fetch_message begun is.ticket is.stamp (record { index = index; device = device })) (Some (reply.Gone is.listing))) step past is.told;
 }
 event_more begun past step turns (Rose start to) is = is
 
@@ -313,6 +313,6 @@ were_kept begun valid (Gave sent ∷ past) run (Sends same ∷ turns) are =
     kept_more begun past (Gave sent) _ _
     (first_kept begun valid past run.1 turns are.1 same hands (were_kept begun valid past run.1 turns are.1) (is_first (all begun turns) same.msg (round_in begun turns)) refl)
 were_kept begun valid (Gave sent ∷ past) run (Hears same meaning ∷ turns) are = absurd are
-were_kept begun valid (Told sent answer ∷ past) run [] are = absurd are
-were_kept begun valid (Told sent answer ∷ past) run (Sends same ∷ turns) are = absurd are
-were_kept begun valid (Told sent answer ∷ past) run (Hears same meaning ∷ turns) are = kept_more begun past (Told sent answer) (round_in begun turns).earlier (reverse (events begun turns)) (were_kept begun valid past run.1 turns are.2)
+were_kept begun valid (Closed sent answer ∷ past) run [] are = absurd are
+were_kept begun valid (Closed sent answer ∷ past) run (Sends same ∷ turns) are = absurd are
+were_kept begun valid (Closed sent answer ∷ past) run (Hears same meaning ∷ turns) are = kept_more begun past (Closed sent answer) (round_in begun turns).earlier (reverse (events begun turns)) (were_kept begun valid past run.1 turns are.2)

@@ -10,7 +10,7 @@ use Rattle.sw_types.proofs.Policies.{bounds}
 use Rattle.sw_hashdir.specs.Listing.{ListingModel}
 use Rattle.sw_message.specs.Message.{IsMember}
 use Rattle.sw_message.specs.declared.target.Target.{Target}
-use Rattle.sw_quorum.specs.Places.{handoffs_few, handoffs_known, part_small, primaries_few}
+use Rattle.sw_quorum.proofs.Places.{handoffs_few, handoffs_known, part_small, primaries_few}
 use Rattle.sw_get.specs.Get.{Begun, IsBegun, devices, place_of}
 use Rattle.sw_get.specs.Round.{Facts, all_devices, candidates, is_free, next_source}
 use Rattle.sw_gather.proofs.Sources.{OfEntries, choices-of, firsts-kept}

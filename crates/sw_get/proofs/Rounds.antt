@@ -8,12 +8,13 @@ use Rattle.std.proofs.lemmas.List.Elements.{All-append, All-cons, All-nil, All-w
 use Rattle.std.proofs.lemmas.Option.{get_or_from_slice_get, none-some, same_Some, slice_get_within}
 use Rattle.sw_hashdir.specs.declared.floor.Floor.{Floor}
 use Rattle.sw_ring.proofs.Among.{Contains-cons}
-use Rattle.sw_message.specs.Transcript.{Gave, Hand, IsRun, Over, Step, Told, is_not, opens}
+use Rattle.sw_message.specs.Transcript.{Closed, Gave, Hand, IsRun, Over, Step, is_not, opens}
 use Rattle.sw_message.specs.declared.message.Msg.{Msg}
 use Rattle.sw_message.specs.declared.message.Msg.TheVariants as message
 use Rattle.sw_message.specs.declared.sent.Sent.{Sent}
 use Rattle.sw_message.specs.declared.target.Target.{Target}
-use Rattle.sw_quorum.specs.Transcripts.{HasOther, has_ticket, numbered}
+use Rattle.sw_quorum.proofs.Transcripts.{numbered}
+use Rattle.sw_quorum.specs.Transcripts.{HasOther, has_ticket}
 use Rattle.sw_get.specs.Get.{AreTurns, Begun, Hears, IsBegun, IsNext, Round, Sends, Turn, ask_first, ask_message, asks_sent, devices, events, facts_in, facts_of, fetch_message, from_in, going_in, is_ask, is_first, listed_by, most_kept, next_after, round_in, sends, sources_tried}
 use Rattle.sw_get.specs.Meaning.{Meaning}
 use Rattle.sw_get.specs.Round.{Facts, all_devices, target_of}
@@ -92,9 +93,9 @@ all_settled begun (Gave sent ∷ past) run (Sends same ∷ turns) are =
     subst (λ (one : Sent). All (IsSettled (one ∷ opens past) (now begun (Sends same ∷ turns))) (sents (now begun (Sends same ∷ turns)))) are.0
     (settled_by begun turns (opens past) same (all_settled begun past run.1 turns are.1) (is_first (all begun turns) same.msg (round_in begun turns)))
 all_settled begun (Gave sent ∷ past) run (Hears same meaning ∷ turns) are = absurd are
-all_settled begun (Told sent answer ∷ past) run [] are = absurd are
-all_settled begun (Told sent answer ∷ past) run (Sends same ∷ turns) are = absurd are
-all_settled begun (Told sent answer ∷ past) run (Hears same meaning ∷ turns) are =
+all_settled begun (Closed sent answer ∷ past) run [] are = absurd are
+all_settled begun (Closed sent answer ∷ past) run (Sends same ∷ turns) are = absurd are
+all_settled begun (Closed sent answer ∷ past) run (Hears same meaning ∷ turns) are =
     let apart = (numbered (IsNext begun) (numbers begun) past run.1).apart in
     subst (λ (one : Sent). All (IsSettled (filter (is_not sent.ticket) (opens past)) (Hears one meaning ∷ now begun turns)) (sents (now begun turns))) (sym are.0)
     (All-weaker (IsSettled (opens past) (now begun turns)) (IsSettled (filter (is_not sent.ticket) (opens past)) (Hears sent meaning ∷ now begun turns))
@@ -289,7 +290,7 @@ all_handed begun valid (Gave sent ∷ past) run (Sends same ∷ turns) are =
     subst (λ (one : Sent). AreHanded begun (Sends one ∷ turns)) (sym are.0)
     (gave begun valid past turns (all_kept begun valid past run.1 turns are.1) (all_handed begun valid past run.1 turns are.1) sent (handed_so begun past sent turns run.0 are.1))
 all_handed begun valid (Gave sent ∷ past) run (Hears same meaning ∷ turns) are = absurd are
-all_handed begun valid (Told sent answer ∷ past) run [] are = absurd are
-all_handed begun valid (Told sent answer ∷ past) run (Sends same ∷ turns) are = absurd are
-all_handed begun valid (Told sent answer ∷ past) run (Hears same meaning ∷ turns) are =
-    heard begun valid past turns (all_kept begun valid past run.1 turns are.2) (all_handed begun valid past run.1 turns are.2) same meaning (Told sent answer ∷ past) (all_kept begun valid (Told sent answer ∷ past) run (Hears same meaning ∷ turns) are)
+all_handed begun valid (Closed sent answer ∷ past) run [] are = absurd are
+all_handed begun valid (Closed sent answer ∷ past) run (Sends same ∷ turns) are = absurd are
+all_handed begun valid (Closed sent answer ∷ past) run (Hears same meaning ∷ turns) are =
+    heard begun valid past turns (all_kept begun valid past run.1 turns are.2) (all_handed begun valid past run.1 turns are.2) same meaning (Closed sent answer ∷ past) (all_kept begun valid (Closed sent answer ∷ past) run (Hears same meaning ∷ turns) are)

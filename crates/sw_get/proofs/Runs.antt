@@ -12,16 +12,17 @@ use Rattle.sw_hashdir.specs.Listing.{ListingModel}
 use Rattle.sw_hashdir.specs.declared.floor.Floor.{Floor}
 use Rattle.sw_archive.specs.Archive.{ArchiveModel}
 use Rattle.sw_ring.proofs.Among.{Contains-cons}
-use Rattle.sw_message.specs.FloorLaws.{highest_from-append}
+use Rattle.sw_message.proofs.FloorLaws.{highest_from-append}
 use Rattle.sw_message.specs.Floors.{floors_in, highest, highest_from}
 use Rattle.sw_message.specs.Message.{IsMember}
-use Rattle.sw_message.specs.Transcript.{Gave, Hand, IsRun, Over, Step, Told, given, is_not, open_at, opens}
+use Rattle.sw_message.specs.Transcript.{Closed, Gave, Hand, IsRun, Over, Step, given, is_not, open_at, opens}
 use Rattle.sw_message.specs.declared.message.Msg.{Msg}
 use Rattle.sw_message.specs.declared.reply.Reply.{Reply}
 use Rattle.sw_message.specs.declared.reply.Reply.TheVariants as reply
 use Rattle.sw_message.specs.declared.sent.Sent.{Sent}
 use Rattle.sw_message.specs.declared.target.Target.{Target}
-use Rattle.sw_quorum.specs.Transcripts.{HasOther, found, numbered}
+use Rattle.sw_quorum.proofs.Transcripts.{found, numbered}
+use Rattle.sw_quorum.specs.Transcripts.{HasOther}
 use Rattle.sw_get.specs.Causes.{ListsAt}
 use Rattle.sw_get.specs.Get.{AreTurns, Begun, Hears, IsBegun, IsMeant, IsNext, Sends, Turn, ask_first, ask_message, devices, event_of, events, facts_in, fetch_message, floors_shown, from_in, going_in, most_kept, next_after, round_in, sends, shown_by, wanted}
 use Rattle.sw_get.specs.Meaning.{Brings, IsFetched, IsWanted, Lacks, Lists, Meaning, Misses, asked_meaning, with_asked, with_fetched}
@@ -49,7 +50,7 @@ use Rattle.sw_get.proofs.Turns.{ask_goes_on, begins, facts-answered, facts-asked
 -- a source whose archive was gone: it is listed at the stamp of the round's target, and it said so of that
 abbrev pub IsGoneOf : Begun → List Step → Option Floor → Facts → Target → Type 0
 IsGoneOf begun past from facts source = (to : Floor) × (target_of from facts ≡ Some to) × ListsAt begun.cluster.policy facts.lists to.stamp source
-    × (ticket : ℕ) × (listing : ListingModel) × Contains past (Told (fetch_message begun ticket to.stamp source) (Some (reply.Gone listing)))
+    × (ticket : ℕ) × (listing : ListingModel) × Contains past (Closed (fetch_message begun ticket to.stamp source) (Some (reply.Gone listing)))
 
 -- archives are fetched at that stamp, from a source that is listed
 abbrev AtTarget : PolicyModel → Option Floor → Facts → Errand → Type 0
@@ -67,7 +68,7 @@ pub record IsBrought (begun : Begun) (past : List Step) (from : Option Floor) (f
   pub target : target_of from facts ≡ Some to
   pub ticket : ℕ
   pub bytes : List ℕ
-  pub told : Contains past (Told (fetch_message begun ticket to.stamp source) (Some (reply.Fragment bytes)))
+  pub told : Contains past (Closed (fetch_message begun ticket to.stamp source) (Some (reply.Fragment bytes)))
   pub wanted : IsWanted (wanted begun to.stamp) source.index bytes archive
 
 -- of a transcript, by what its round knows, the floors that were shown, and the count of events before
@@ -99,7 +100,7 @@ same_gone begun past step from a b target lists source is = (
   subst (λ these. ListsAt begun.cluster.policy these is.0.stamp source) lists is.2,
   is.3,
   is.4,
-  Contains-cons (Told (fetch_message begun is.3 is.0.stamp source) (Some (reply.Gone is.4))) step past is.5,
+  Contains-cons (Closed (fetch_message begun is.3 is.0.stamp source) (Some (reply.Gone is.4))) step past is.5,
 )
 
 same_open : (begun : Begun) (from : Option Floor) (a b : Facts) → target_of from a ≡ target_of from b → a.lists ≡ b.lists → (sent : Sent) → IsOpenOf begun from a sent → IsOpenOf begun from b sent
@@ -112,7 +113,7 @@ same_brought begun past step from a b same source archive is = record {
   target = sym same ∙ is.target;
   ticket = is.ticket;
   bytes = is.bytes;
-  told = Contains-cons (Told (fetch_message begun is.ticket is.to.stamp source) (Some (reply.Fragment is.bytes))) step past is.told;
+  told = Contains-cons (Closed (fetch_message begun is.ticket is.to.stamp source) (Some (reply.Fragment is.bytes))) step past is.told;
   wanted = is.wanted;
 }
 
@@ -250,10 +251,10 @@ module _ (begun : Begun) (valid : IsBegun begun) (past : List Step) (turns : Lis
 
   module _ (ticket : ℕ) (answer : Option Reply) (apart : AllPairs HasOther (opens past)) where
     heard_ask : (device : ℕ) → let sent = ask_message begun ticket device in open_at ticket past ≡ Some sent → IsErrand begun (Ask device) sent
-        → Keeps begun (Told sent answer ∷ past) (Hears sent (asked_meaning answer) ∷ turns)
+        → Keeps begun (Closed sent answer ∷ past) (Hears sent (asked_meaning answer) ∷ turns)
     heard_ask device is errand =
         let sent = ask_message begun ticket device in
-        let step = Told sent answer in
+        let step = Closed sent answer in
         let meaning = asked_meaning answer in
         let left = opens (step ∷ past) in
         let taken = counted-taken facts (opens past) begun [] (Ask device) answer sent errand is apart keeps.counted in
@@ -294,10 +295,10 @@ module _ (begun : Begun) (valid : IsBegun begun) (past : List Step) (turns : Lis
 
     heard_fetch : (stamp : ℕ) (source : Target) (meaning : Meaning) → let sent = fetch_message begun ticket stamp source in open_at ticket past ≡ Some sent → IsErrand begun (Fetch stamp source) sent
         → AtTarget begun.cluster.policy from facts (Fetch stamp source) → IsFetched (wanted begun stamp) facts.archives source.index answer meaning
-        → Keeps begun (Told sent answer ∷ past) (Hears sent meaning ∷ turns)
+        → Keeps begun (Closed sent answer ∷ past) (Hears sent meaning ∷ turns)
     heard_fetch stamp source meaning is errand at means =
         let sent = fetch_message begun ticket stamp source in
-        let step = Told sent answer in
+        let step = Closed sent answer in
         let left = opens (step ∷ past) in
         let taken = counted-taken facts (opens past) begun [] (Fetch stamp source) answer sent errand is apart keeps.counted in
         let after : Facts = with_fetched facts source meaning in
@@ -326,19 +327,19 @@ module _ (begun : Begun) (valid : IsBegun begun) (past : List Step) (turns : Lis
         same_lists (Misses how) = refl
         same_lists (Lists listing) = refl
 
-        before_gone : (meaning : Meaning) → All (IsGoneOf begun (Told (fetch_message begun ticket stamp source) answer ∷ past) from (with_fetched facts source meaning)) facts.gone
+        before_gone : (meaning : Meaning) → All (IsGoneOf begun (Closed (fetch_message begun ticket stamp source) answer ∷ past) from (with_fetched facts source meaning)) facts.gone
         before_gone meaning =
-            All-weaker (IsGoneOf begun past from facts) (IsGoneOf begun (Told (fetch_message begun ticket stamp source) answer ∷ past) from (with_fetched facts source meaning))
-            (same_gone begun past (Told (fetch_message begun ticket stamp source) answer) from facts (with_fetched facts source meaning) (same_target meaning) (same_lists meaning)) facts.gone keeps.gone_told
+            All-weaker (IsGoneOf begun past from facts) (IsGoneOf begun (Closed (fetch_message begun ticket stamp source) answer ∷ past) from (with_fetched facts source meaning))
+            (same_gone begun past (Closed (fetch_message begun ticket stamp source) answer) from facts (with_fetched facts source meaning) (same_target meaning) (same_lists meaning)) facts.gone keeps.gone_told
 
         gone_more : (meaning : Meaning) → IsFetched (wanted begun stamp) facts.archives source.index answer meaning
-            → All (IsGoneOf begun (Told (fetch_message begun ticket stamp source) answer ∷ past) from (with_fetched facts source meaning)) (with_fetched facts source meaning).gone
+            → All (IsGoneOf begun (Closed (fetch_message begun ticket stamp source) answer ∷ past) from (with_fetched facts source meaning)) (with_fetched facts source meaning).gone
         gone_more (Brings archive) means = before_gone (Brings archive)
         gone_more (Lacks listing) means =
-            let path = Told (fetch_message begun ticket stamp source) answer ∷ past in
-            let told = subst (λ n. Contains path (Told (fetch_message begun ticket n source) answer)) at.2 (zero, omega arith, refl) in
+            let path = Closed (fetch_message begun ticket stamp source) answer ∷ past in
+            let told = subst (λ n. Contains path (Closed (fetch_message begun ticket n source) answer)) at.2 (zero, omega arith, refl) in
             All-push (IsGoneOf begun path from (with_fetched facts source (Lacks listing))) facts.gone source (before_gone (Lacks listing))
-            (at.0, at.1, at.3, ticket, listing, subst (λ given. Contains path (Told (fetch_message begun ticket at.0.stamp source) given)) (gone_of begun turns stamp source.index listing answer means) told)
+            (at.0, at.1, at.3, ticket, listing, subst (λ given. Contains path (Closed (fetch_message begun ticket at.0.stamp source) given)) (gone_of begun turns stamp source.index listing answer means) told)
         gone_more (Misses how) means = before_gone (Misses how)
         gone_more (Lists listing) means = before_gone (Lists listing)
 
@@ -349,24 +350,24 @@ module _ (begun : Begun) (valid : IsBegun begun) (past : List Step) (turns : Lis
         same_tried (Lists listing) = refl
 
         still : (after : Facts) → target_of from facts ≡ target_of from after
-            → AllZip (IsBrought begun (Told (fetch_message begun ticket stamp source) answer ∷ past) from after) facts.sources facts.archives
+            → AllZip (IsBrought begun (Closed (fetch_message begun ticket stamp source) answer ∷ past) from after) facts.sources facts.archives
         still after same =
-            zip-weaker (IsBrought begun past from facts) (IsBrought begun (Told (fetch_message begun ticket stamp source) answer ∷ past) from after)
-            (same_brought begun past (Told (fetch_message begun ticket stamp source) answer) from facts after same) facts.sources facts.archives keeps.brought
+            zip-weaker (IsBrought begun past from facts) (IsBrought begun (Closed (fetch_message begun ticket stamp source) answer ∷ past) from after)
+            (same_brought begun past (Closed (fetch_message begun ticket stamp source) answer) from facts after same) facts.sources facts.archives keeps.brought
 
         brings : (meaning : Meaning) → IsFetched (wanted begun stamp) facts.archives source.index answer meaning
-            → AllZip (IsBrought begun (Told (fetch_message begun ticket stamp source) answer ∷ past) from (with_fetched facts source meaning)) (with_fetched facts source meaning).sources (with_fetched facts source meaning).archives
+            → AllZip (IsBrought begun (Closed (fetch_message begun ticket stamp source) answer ∷ past) from (with_fetched facts source meaning)) (with_fetched facts source meaning).sources (with_fetched facts source meaning).archives
         brings (Brings archive) means =
             let fragment = fragment_of (wanted begun stamp) facts.archives source.index archive answer means in
-            zip-push (IsBrought begun (Told (fetch_message begun ticket stamp source) answer ∷ past) from (with_fetched facts source (Brings archive))) facts.sources facts.archives source archive
+            zip-push (IsBrought begun (Closed (fetch_message begun ticket stamp source) answer ∷ past) from (with_fetched facts source (Brings archive))) facts.sources facts.archives source archive
             (still (with_fetched facts source (Brings archive)) refl)
             (record {
               to = at.0;
               target = at.1;
               ticket = ticket;
               bytes = fragment.bytes;
-              told = subst (λ (n : ℕ). Contains (Told (fetch_message begun ticket stamp source) answer ∷ past) (Told (fetch_message begun ticket n source) (Some (reply.Fragment fragment.bytes)))) at.2
-                  (zero, omega arith, ap (λ given. Told (fetch_message begun ticket stamp source) given) fragment.given);
+              told = subst (λ (n : ℕ). Contains (Closed (fetch_message begun ticket stamp source) answer ∷ past) (Closed (fetch_message begun ticket n source) (Some (reply.Fragment fragment.bytes)))) at.2
+                  (zero, omega arith, ap (λ given. Closed (fetch_message begun ticket stamp source) given) fragment.given);
               wanted = subst (λ (n : ℕ). IsWanted (wanted begun n) source.index fragment.bytes archive) at.2 fragment.spelled;
             })
         brings (Lacks listing) means = still (with_fetched facts source (Lacks listing)) refl
@@ -374,18 +375,18 @@ module _ (begun : Begun) (valid : IsBegun begun) (past : List Step) (turns : Lis
         brings (Lists listing) means = still facts refl
 
     told : (sent : Sent) (meaning : Meaning) → open_at sent.ticket past ≡ Some sent → sent.ticket ≡ ticket → IsMeant begun turns sent.msg answer meaning → (errand : Errand) → IsErrand begun errand sent → AtTarget begun.cluster.policy from facts errand
-        → Keeps begun (Told sent answer ∷ past) (Hears sent meaning ∷ turns)
+        → Keeps begun (Closed sent answer ∷ past) (Hears sent meaning ∷ turns)
     told sent meaning is own means (Ask device) errand at =
         let same : sent ≡ ask_message begun ticket device = errand.message ∙ ap (λ n. ask_message begun n device) own in
         let meant : meaning ≡ asked_meaning answer = subst (λ (one : Sent). IsMeant begun turns one.msg answer meaning) same means in
         let opened : open_at ticket past ≡ Some (ask_message begun ticket device) = ap (λ n. open_at n past) (sym own) ∙ is ∙ ap (λ (one : Sent). Some one) same in
-        subst (λ (one : Sent). Keeps begun (Told one answer ∷ past) (Hears one meaning ∷ turns)) (sym same)
-        (subst (λ m. Keeps begun (Told (ask_message begun ticket device) answer ∷ past) (Hears (ask_message begun ticket device) m ∷ turns)) (sym meant)
+        subst (λ (one : Sent). Keeps begun (Closed one answer ∷ past) (Hears one meaning ∷ turns)) (sym same)
+        (subst (λ m. Keeps begun (Closed (ask_message begun ticket device) answer ∷ past) (Hears (ask_message begun ticket device) m ∷ turns)) (sym meant)
         (heard_ask device opened (subst (IsErrand begun (Ask device)) same errand)))
     told sent meaning is own means (Fetch stamp source) errand at =
         let same : sent ≡ fetch_message begun ticket stamp source = errand.message ∙ ap (λ n. fetch_message begun n stamp source) own in
         let opened : open_at ticket past ≡ Some (fetch_message begun ticket stamp source) = ap (λ n. open_at n past) (sym own) ∙ is ∙ ap (λ (one : Sent). Some one) same in
-        subst (λ (one : Sent). Keeps begun (Told one answer ∷ past) (Hears one meaning ∷ turns)) (sym same)
+        subst (λ (one : Sent). Keeps begun (Closed one answer ∷ past) (Hears one meaning ∷ turns)) (sym same)
         (heard_fetch stamp source meaning opened (subst (IsErrand begun (Fetch stamp source)) same errand) at
         (subst (λ (one : Sent). IsMeant begun turns one.msg answer meaning) same means))
 
@@ -429,11 +430,11 @@ all_kept begun valid (Gave sent ∷ past) run (Sends same ∷ turns) are =
     let next = subst (λ these. next_after begun these (going_in begun these) ≡ Hand sent) (one_turns begun past run.0.0 turns run.0.1 are.1) run.0.2 in
     subst (λ (one : Sent). Keeps begun (Gave sent ∷ past) (Sends one ∷ turns)) (sym are.0) (handed begun valid past turns keeps sent (going_in begun turns) refl next)
 all_kept begun valid (Gave sent ∷ past) run (Hears same meaning ∷ turns) are = absurd are
-all_kept begun valid (Told sent answer ∷ past) run [] are = absurd are
-all_kept begun valid (Told sent answer ∷ past) run (Sends same ∷ turns) are = absurd are
-all_kept begun valid (Told sent answer ∷ past) run (Hears same meaning ∷ turns) are =
+all_kept begun valid (Closed sent answer ∷ past) run [] are = absurd are
+all_kept begun valid (Closed sent answer ∷ past) run (Sends same ∷ turns) are = absurd are
+all_kept begun valid (Closed sent answer ∷ past) run (Hears same meaning ∷ turns) are =
     let keeps = all_kept begun valid past run.1 turns are.2 in
     let own = found (IsOpenOf begun (from_in begun turns) (facts_in begun turns)) sent.ticket (opens past) sent run.0 keeps.opened in
     let apart = (numbered (IsNext begun) (numbers begun) past run.1).apart in
-    subst (λ (one : Sent). Keeps begun (Told sent answer ∷ past) (Hears one meaning ∷ turns)) (sym are.0)
+    subst (λ (one : Sent). Keeps begun (Closed sent answer ∷ past) (Hears one meaning ∷ turns)) (sym are.0)
     (told begun valid past turns keeps sent.ticket answer apart sent meaning run.0 refl are.1 own.0.errand own.0.is own.0.at)

@@ -8,7 +8,7 @@ use Rattle.sw_archive.specs.Archive.{ArchiveModel, IsSound}
 use Rattle.sw_archive.specs.Assemble.{AreTogether, IsNext}
 use Rattle.sw_archive.proofs.Gatherings.{AreTogether-push, none_together}
 use Rattle.sw_message.specs.Spoil.{HasCode, IsNamed}
-use Rattle.sw_message.specs.Transcript.{Gave, Step, Told}
+use Rattle.sw_message.specs.Transcript.{Closed, Gave, Step}
 use Rattle.sw_message.specs.declared.message.Msg.{Msg}
 use Rattle.sw_message.specs.declared.message.Msg.TheVariants as message
 use Rattle.sw_message.specs.declared.miss.Miss.TheVariants as miss
@@ -198,9 +198,9 @@ turns_brought begun [] (turn ∷ turns) are = absurd are
 turns_brought begun (Gave sent ∷ past) [] are = absurd are
 turns_brought begun (Gave sent ∷ past) (Sends same ∷ turns) are = archives_sent begun turns same (turns_brought begun past turns are.1)
 turns_brought begun (Gave sent ∷ past) (Hears same meaning ∷ turns) are = absurd are
-turns_brought begun (Told sent answer ∷ past) [] are = absurd are
-turns_brought begun (Told sent answer ∷ past) (Sends same ∷ turns) are = absurd are
-turns_brought begun (Told sent answer ∷ past) (Hears same meaning ∷ turns) are =
+turns_brought begun (Closed sent answer ∷ past) [] are = absurd are
+turns_brought begun (Closed sent answer ∷ past) (Sends same ∷ turns) are = absurd are
+turns_brought begun (Closed sent answer ∷ past) (Hears same meaning ∷ turns) are =
     archives_heard begun turns same answer meaning (subst (λ (one : Sent). IsMeant begun turns one.msg answer meaning) (sym are.0) are.1) (turns_brought begun past turns are.2)
 
 pub turns_together : (begun : Begun) (past : List Step) (turns : List Turn) → AreTurns begun past turns → AreTogether (facts_in begun turns).archives
@@ -217,12 +217,12 @@ one_turns begun (Gave sent ∷ past) [] b x y = absurd x
 one_turns begun (Gave sent ∷ past) (Hears one meaning ∷ a) b x y = absurd x
 one_turns begun (Gave sent ∷ past) (Sends one ∷ a) [] x y = absurd y
 one_turns begun (Gave sent ∷ past) (Sends one ∷ a) (Hears other meaning ∷ b) x y = absurd y
-one_turns begun (Told sent answer ∷ past) (Hears one meaning ∷ a) (Hears other meant ∷ b) x y =
+one_turns begun (Closed sent answer ∷ past) (Hears one meaning ∷ a) (Hears other meant ∷ b) x y =
     let rest = one_turns begun past a b x.2 y.2 in
     let first = subst (λ turns. IsMeant begun turns sent.msg answer meaning) rest x.1 in
     let same = one_meant begun b answer (turns_together begun past b y.2) sent.msg meaning meant first y.1 in
     cc (x.0, y.0)
-one_turns begun (Told sent answer ∷ past) [] b x y = absurd x
-one_turns begun (Told sent answer ∷ past) (Sends one ∷ a) b x y = absurd x
-one_turns begun (Told sent answer ∷ past) (Hears one meaning ∷ a) [] x y = absurd y
-one_turns begun (Told sent answer ∷ past) (Hears one meaning ∷ a) (Sends other ∷ b) x y = absurd y
+one_turns begun (Closed sent answer ∷ past) [] b x y = absurd x
+one_turns begun (Closed sent answer ∷ past) (Sends one ∷ a) b x y = absurd x
+one_turns begun (Closed sent answer ∷ past) (Hears one meaning ∷ a) [] x y = absurd y
+one_turns begun (Closed sent answer ∷ past) (Hears one meaning ∷ a) (Sends other ∷ b) x y = absurd y

@@ -2,7 +2,7 @@
 use Rattle.std.proofs.Common.{ℕ, List, [], ◌∷◌, Option, Some, None, refl, sym, subst}
 use Rattle.sw_hashpath.specs.Place.{PlaceModel}
 use Rattle.sw_archive.specs.Archive.{ArchiveModel}
-use Rattle.sw_message.specs.Transcript.{Gave, Step, Told}
+use Rattle.sw_message.specs.Transcript.{Closed, Gave, Step}
 use Rattle.sw_message.specs.declared.message.Msg.{Msg}
 use Rattle.sw_message.specs.declared.message.Msg.TheVariants as message
 use Rattle.sw_message.specs.declared.miss.Miss.{Miss}
@@ -99,6 +99,6 @@ are_heard begun [] (turn ∷ turns) are = absurd are
 are_heard begun (Gave sent ∷ past) [] are = absurd are
 are_heard begun (Gave sent ∷ past) (Sends same ∷ turns) are = (are.0, are_heard begun past turns are.1)
 are_heard begun (Gave sent ∷ past) (Hears same meaning ∷ turns) are = absurd are
-are_heard begun (Told sent answer ∷ past) [] are = absurd are
-are_heard begun (Told sent answer ∷ past) (Sends same ∷ turns) are = absurd are
-are_heard begun (Told sent answer ∷ past) (Hears same meaning ∷ turns) are = (are.0, says begun turns sent.msg answer meaning are.1, are_heard begun past turns are.2)
+are_heard begun (Closed sent answer ∷ past) [] are = absurd are
+are_heard begun (Closed sent answer ∷ past) (Sends same ∷ turns) are = absurd are
+are_heard begun (Closed sent answer ∷ past) (Hears same meaning ∷ turns) are = (are.0, says begun turns sent.msg answer meaning are.1, are_heard begun past turns are.2)

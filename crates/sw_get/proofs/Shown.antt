@@ -8,9 +8,9 @@ use Rattle.sw_hashpath.specs.Place.{PlaceModel}
 use Rattle.sw_hashdir.specs.Listing.{ListingModel}
 use Rattle.sw_hashdir.specs.declared.floor.Floor.{Floor}
 use Rattle.sw_ring.proofs.Among.{Contains-cons}
-use Rattle.sw_message.specs.FloorLaws.{highest_from-append}
+use Rattle.sw_message.proofs.FloorLaws.{highest_from-append}
 use Rattle.sw_message.specs.Floors.{IsHighest, floors_in, highest_from}
-use Rattle.sw_message.specs.Transcript.{Gave, Step, Told}
+use Rattle.sw_message.specs.Transcript.{Closed, Gave, Step}
 use Rattle.sw_message.specs.declared.message.Msg.{Msg}
 use Rattle.sw_message.specs.declared.message.Msg.TheVariants as message
 use Rattle.sw_message.specs.declared.reply.Reply.{Reply}
@@ -99,11 +99,11 @@ module _ (begun : Begun) (turns : List Turn) (answer : Option Reply) (listing : 
 -- the answer that a turn hears is in the transcript, and means what it is said to
 abbrev pub IsTold : Begun → List Step → Turn → Type 0
 IsTold begun past (Sends sent) = Unit {0}
-IsTold begun past (Hears sent meaning) = (answer : Option Reply) × Contains past (Told sent answer) × (before : List Turn) × IsMeant begun before sent.msg answer meaning
+IsTold begun past (Hears sent meaning) = (answer : Option Reply) × Contains past (Closed sent answer) × (before : List Turn) × IsMeant begun before sent.msg answer meaning
 
 told_more : (begun : Begun) (past : List Step) (step : Step) (turn : Turn) → IsTold begun past turn → IsTold begun (step ∷ past) turn
 told_more begun past step (Sends sent) is = tt
-told_more begun past step (Hears sent meaning) is = (is.0, Contains-cons (Told sent is.0) step past is.1, is.2, is.3)
+told_more begun past step (Hears sent meaning) is = (is.0, Contains-cons (Closed sent is.0) step past is.1, is.2, is.3)
 
 pub all_told : (begun : Begun) (past : List Step) (turns : List Turn) → AreTurns begun past turns → All (IsTold begun past) turns
 all_told begun [] [] are = All-nil (IsTold begun [])
@@ -113,16 +113,16 @@ all_told begun (Gave sent ∷ past) (Sends same ∷ turns) are =
     All-cons (IsTold begun (Gave sent ∷ past)) (Sends same) turns tt
     (All-weaker (IsTold begun past) (IsTold begun (Gave sent ∷ past)) (told_more begun past (Gave sent)) turns (all_told begun past turns are.1))
 all_told begun (Gave sent ∷ past) (Hears same meaning ∷ turns) are = absurd are
-all_told begun (Told sent answer ∷ past) [] are = absurd are
-all_told begun (Told sent answer ∷ past) (Sends same ∷ turns) are = absurd are
-all_told begun (Told sent answer ∷ past) (Hears same meaning ∷ turns) are =
-    All-cons (IsTold begun (Told sent answer ∷ past)) (Hears same meaning) turns
-    (subst (λ (one : Sent). IsTold begun (Told sent answer ∷ past) (Hears one meaning)) (sym are.0) (answer, here (Told sent answer) past, turns, are.1))
-    (All-weaker (IsTold begun past) (IsTold begun (Told sent answer ∷ past)) (told_more begun past (Told sent answer)) turns (all_told begun past turns are.2))
+all_told begun (Closed sent answer ∷ past) [] are = absurd are
+all_told begun (Closed sent answer ∷ past) (Sends same ∷ turns) are = absurd are
+all_told begun (Closed sent answer ∷ past) (Hears same meaning ∷ turns) are =
+    All-cons (IsTold begun (Closed sent answer ∷ past)) (Hears same meaning) turns
+    (subst (λ (one : Sent). IsTold begun (Closed sent answer ∷ past) (Hears one meaning)) (sym are.0) (answer, here (Closed sent answer) past, turns, are.1))
+    (All-weaker (IsTold begun past) (IsTold begun (Closed sent answer ∷ past)) (told_more begun past (Closed sent answer)) turns (all_told begun past turns are.2))
 
-shows_told : (past : List Step) (sent : Sent) (answer : Option Reply) (listing : ListingModel) → Contains past (Told sent answer) → Gives sent.msg answer listing → IsShown past listing
+shows_told : (past : List Step) (sent : Sent) (answer : Option Reply) (listing : ListingModel) → Contains past (Closed sent answer) → Gives sent.msg answer listing → IsShown past listing
 shows_told past sent answer listing told gives =
-    record { sent = sent; given = gives.0; told = subst (λ one. Contains past (Told sent one)) gives.1 told; shows = gives.2 }
+    record { sent = sent; given = gives.0; told = subst (λ one. Contains past (Closed sent one)) gives.1 told; shows = gives.2 }
 
 lists_told : (begun : Begun) (past : List Step) (sent : Sent) (listing : ListingModel) → IsTold begun past (Hears sent (Lists listing)) → IsShown past listing
 lists_told begun past sent listing is = shows_told past sent is.0 listing is.1 (gives_listed begun is.2 is.0 listing sent.msg is.3)
@@ -292,19 +292,19 @@ module _ (listing : ListingModel) where
   floors_meant begun turns (message.Places part) given meaning shows is = absurd is
 
 -- each floor of a listing that is shown is among those of the turns
-pub shown_among : (begun : Begun) (past : List Step) (turns : List Turn) → AreTurns begun past turns → (listing : ListingModel) (sent : Sent) (given : Reply) → Contains past (Told sent (Some given)) → Shows sent.msg given listing
+pub shown_among : (begun : Begun) (past : List Step) (turns : List Turn) → AreTurns begun past turns → (listing : ListingModel) (sent : Sent) (given : Reply) → Contains past (Closed sent (Some given)) → Shows sent.msg given listing
     → (floor : Floor) → Contains (floors_in listing) floor → Contains (floors_shown turns) floor
-shown_among begun [] [] are listing sent given told shows floor has = absurd (none_in (Told sent (Some given)) told)
+shown_among begun [] [] are listing sent given told shows floor has = absurd (none_in (Closed sent (Some given)) told)
 shown_among begun [] (turn ∷ turns) are listing sent given told shows floor has = absurd are
 shown_among begun (Gave one ∷ past) [] are listing sent given told shows floor has = absurd are
-shown_among begun (Gave one ∷ past) (Sends same ∷ turns) are listing sent given told shows floor has = elim (first_or_later (Gave one) past (Told sent (Some given)) told) [
+shown_among begun (Gave one ∷ past) (Sends same ∷ turns) are listing sent given told shows floor has = elim (first_or_later (Gave one) past (Closed sent (Some given)) told) [
   | inl first ↦ absurd (cc first)
   | inr later ↦ shown_among begun past turns are.1 listing sent given later shows floor has
 ]
 shown_among begun (Gave one ∷ past) (Hears same meaning ∷ turns) are listing sent given told shows floor has = absurd are
-shown_among begun (Told one answer ∷ past) [] are listing sent given told shows floor has = absurd are
-shown_among begun (Told one answer ∷ past) (Sends same ∷ turns) are listing sent given told shows floor has = absurd are
-shown_among begun (Told one answer ∷ past) (Hears same meaning ∷ turns) are listing sent given told shows floor has = elim (first_or_later (Told one answer) past (Told sent (Some given)) told) [
+shown_among begun (Closed one answer ∷ past) [] are listing sent given told shows floor has = absurd are
+shown_among begun (Closed one answer ∷ past) (Sends same ∷ turns) are listing sent given told shows floor has = absurd are
+shown_among begun (Closed one answer ∷ past) (Hears same meaning ∷ turns) are listing sent given told shows floor has = elim (first_or_later (Closed one answer) past (Closed sent (Some given)) told) [
   | inl first ↦
       let sents : one ≡ sent = cc first in
       let answers : answer ≡ Some given = cc first in

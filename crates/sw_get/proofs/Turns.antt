@@ -3,9 +3,9 @@ use Rattle.std.proofs.Common.{◌≡◌, inl, inr, ℕ, ◌+◌, ◌<◌, ◌≤
 use Rattle.std.specs.Prelude.{if◌then◌else◌}
 use Rattle.std.proofs.lemmas.Bool.{le-ltb, lt-ltb}
 use Rattle.sw_hashdir.specs.Listing.{ListingModel}
-use Rattle.sw_message.specs.FloorLaws.{highest_from-append}
+use Rattle.sw_message.proofs.FloorLaws.{highest_from-append}
 use Rattle.sw_message.specs.Floors.{highest, highest_from}
-use Rattle.sw_message.specs.Transcript.{Gave, Step, Told, given}
+use Rattle.sw_message.specs.Transcript.{Closed, Gave, Step, given}
 use Rattle.sw_message.specs.declared.miss.Miss.{Miss}
 use Rattle.sw_message.specs.declared.reply.Reply.{Reply}
 use Rattle.sw_message.specs.declared.sent.Sent.{Sent}
@@ -24,9 +24,9 @@ sends-given begun [] (turn ∷ turns) are = absurd are
 sends-given begun (Gave sent ∷ past) [] are = absurd are
 sends-given begun (Gave sent ∷ past) (Sends same ∷ turns) are = omega (arith, sends-given begun past turns are.1)
 sends-given begun (Gave sent ∷ past) (Hears same meaning ∷ turns) are = absurd are
-sends-given begun (Told sent answer ∷ past) [] are = absurd are
-sends-given begun (Told sent answer ∷ past) (Sends same ∷ turns) are = absurd are
-sends-given begun (Told sent answer ∷ past) (Hears same meaning ∷ turns) are = sends-given begun past turns are.2
+sends-given begun (Closed sent answer ∷ past) [] are = absurd are
+sends-given begun (Closed sent answer ∷ past) (Sends same ∷ turns) are = absurd are
+sends-given begun (Closed sent answer ∷ past) (Hears same meaning ∷ turns) are = sends-given begun past turns are.2
 
 -- ---- what is known
 

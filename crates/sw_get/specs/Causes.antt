@@ -13,7 +13,7 @@ use Rattle.sw_message.specs.Learnt.{Booked, Learnt}
 use Rattle.sw_message.specs.Message.{IsMember}
 use Rattle.sw_message.specs.Miss.{miss_of}
 use Rattle.sw_message.specs.Spoil.{IsAsked, IsNamed, IsSpoilOf}
-use Rattle.sw_message.specs.Transcript.{Gave, Step, Told, opens}
+use Rattle.sw_message.specs.Transcript.{Closed, Gave, Step, opens}
 use Rattle.sw_message.specs.declared.message.Msg.{Msg}
 use Rattle.sw_message.specs.declared.message.Msg.TheVariants as message
 use Rattle.sw_message.specs.declared.miss.Miss.{Miss}
@@ -49,7 +49,7 @@ Shows msg other shown = ⊥
 pub record IsShown (past : List Step) (listing : ListingModel) : Type 0 where
   pub sent : Sent
   pub given : Reply
-  pub told : Contains past (Told sent (Some given))
+  pub told : Contains past (Closed sent (Some given))
   pub shows : Shows sent.msg given listing
 
 -- a listing that is shown has this floor as its greatest
@@ -88,14 +88,14 @@ Says begun others msg answer other = ⊥
 abbrev pub AreHeard : Begun → List Step → List Turn → Type 0
 AreHeard begun [] [] = ⊤
 AreHeard begun (Gave sent ∷ past) (Sends same ∷ turns) = (same ≡ sent) × AreHeard begun past turns
-AreHeard begun (Told sent answer ∷ past) (Hears same meaning ∷ turns) = (same ≡ sent) × Says begun (facts_in begun turns).archives sent.msg answer meaning × AreHeard begun past turns
+AreHeard begun (Closed sent answer ∷ past) (Hears same meaning ∷ turns) = (same ≡ sent) × Says begun (facts_in begun turns).archives sent.msg answer meaning × AreHeard begun past turns
 AreHeard begun past turns = ⊥
 
 -- the source was asked for the archive of its index at the stamp, and sent the one of the put
 pub record IsSource (begun : Begun) (past : List Step) (stamp : ℕ) (object : ObjectModel) (source : Target) : Type 0 where
   pub ticket : ℕ
   pub bytes : List ℕ
-  pub told : Contains past (Told (fetch_message begun ticket stamp source) (Some (reply.Fragment bytes)))
+  pub told : Contains past (Closed (fetch_message begun ticket stamp source) (Some (reply.Fragment bytes)))
   pub archive : bytes ≡ put_archive begun.cluster.policy stamp begun.name object source.index
 
 -- ---- rounds
@@ -247,7 +247,7 @@ pub record IsGone (begun : Begun) (past : List Step) (turns : List Turn) (source
   pub listed : ListsAt begun.cluster.policy (facts_in begun turns).lists stamp source
   pub ticket : ℕ
   pub listing : ListingModel
-  pub told : Contains past (Told (fetch_message begun ticket stamp source) (Some (reply.Gone listing)))
+  pub told : Contains past (Closed (fetch_message begun ticket stamp source) (Some (reply.Gone listing)))
 
 -- the target rose above every floor before the round, and its archives are wanting
 pub record IsRisen (begun : Begun) (turns : List Turn) (start : Option Floor) (to : Floor) : Type 0 where

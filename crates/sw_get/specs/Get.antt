@@ -10,7 +10,7 @@ use Rattle.sw_archive.specs.Assemble.{IsTold}
 use Rattle.sw_ring.specs.Cluster.{ClusterModel, KeepsRules, column_of, handoffs_of, place_of_name}
 use Rattle.sw_message.specs.Floors.{floors_in, highest}
 use Rattle.sw_message.specs.Targets.{ascending}
-use Rattle.sw_message.specs.Transcript.{Gave, Hand, Next, Over, Step, Told, Wait}
+use Rattle.sw_message.specs.Transcript.{Closed, Gave, Hand, Next, Over, Step, Wait}
 use Rattle.sw_message.specs.declared.message.Msg.{Msg}
 use Rattle.sw_message.specs.declared.message.Msg.TheVariants as message
 use Rattle.sw_message.specs.declared.miss.Miss.{Miss}
@@ -194,7 +194,7 @@ IsMeant begun turns other answer meaning = ⊥
 abbrev pub AreTurns : Begun → List Step → List Turn → Type 0
 AreTurns begun [] [] = ⊤
 AreTurns begun (Gave sent ∷ past) (Sends same ∷ turns) = (same ≡ sent) × AreTurns begun past turns
-AreTurns begun (Told sent answer ∷ past) (Hears same meaning ∷ turns) = (same ≡ sent) × IsMeant begun turns sent.msg answer meaning × AreTurns begun past turns
+AreTurns begun (Closed sent answer ∷ past) (Hears same meaning ∷ turns) = (same ≡ sent) × IsMeant begun turns sent.msg answer meaning × AreTurns begun past turns
 AreTurns begun past turns = ⊥
 
 -- ---- the machine

@@ -13,7 +13,7 @@ use Rattle.sw_message.specs.Learnt.{Learnt}
 use Rattle.sw_message.specs.Message.{IsMember}
 use Rattle.sw_message.specs.Running.{IsOf}
 use Rattle.sw_message.specs.Targets.{ascending}
-use Rattle.sw_message.specs.Transcript.{Hand, IsRun, Step, Told, opens}
+use Rattle.sw_message.specs.Transcript.{Closed, Hand, IsRun, Step, opens}
 use Rattle.sw_message.specs.Warrant.{IsWarranted}
 use Rattle.sw_message.specs.declared.message.Msg.{Msg}
 use Rattle.sw_message.specs.declared.reply.Reply.{Reply}
@@ -90,7 +90,7 @@ BeginsWith unread errand = (answer : Option Reply) × (later : List (Unread Erra
 -- the answers that were not yet read, the first of them told first, lead from one transcript to another
 abbrev pub Lead : Begun → List (Unread Errand) → List Step → List Step → Type 0
 Lead begun [] read past = past ≡ read
-Lead begun (unread ∷ later) read past = (sent : Sent) × IsErrand begun unread.0 sent × Lead begun later (Told sent unread.1 ∷ read) past
+Lead begun (unread ∷ later) read past = (sent : Sent) × IsErrand begun unread.0 sent × Lead begun later (Closed sent unread.1 ∷ read) past
 
 -- the floors that the answer to a fetch shows
 abbrev pub shown_gone : Option Reply → List Floor

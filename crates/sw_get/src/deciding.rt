@@ -10,7 +10,7 @@ use crate::round_end::{Going, KeptEvent, RoundEnd};
 use std::alloc::Global;
 use sw_gather::{candidates, firsts, has_index, has_target};
 use sw_hashdir::{Floor, FloorKind};
-use sw_message::{Target, highest_with, is_above};
+use sw_message::{Target, highest_with, is_above, total_of};
 use sw_types::{NoMemory, Policy};
 
 impl Round {
@@ -262,14 +262,6 @@ impl Round {
             None => risen_or(from, to, RoundEnd::Unanswered),
         }
     }
-}
-
-// How many indices there are.
-fn total_of(policy: &Policy) -> u32
-    ensures { result ≡ policy.now.k + policy.now.m }
-{
-    prove!(policy.segment() <= Policy::GREATEST_SEGMENT);
-    policy.k() + policy.m()
 }
 
 // The device that is asked as this one: the handoffs first, and then the primaries.

@@ -1,7 +1,7 @@
 //! Gets.
 
 ghost use Rattle.std.specs.Prelude.{◌≡◌, [], List, None, Some, IfOk, MatchOption, is_some, length, slice_get};
-ghost use Rattle.sw_message.specs.Transcript.{Step, told};
+ghost use Rattle.sw_message.specs.Transcript.{Step, after_answer};
 ghost use Rattle.sw_get.specs.Get.{Begun, IsEnd};
 ghost use Rattle.sw_get.specs.Round.{all_devices};
 ghost use Rattle.sw_get.specs.Standing.{Stands};
@@ -94,7 +94,7 @@ impl GetOp {
 
     // Takes the answer to a ticket, or that there is none. One that is not open is ignored. It takes no memory.
     pub(crate) fn answer(&mut self, ticket: u64, answer: Option<Reply>)
-        ensures stands { (begun : Begun) (past : List Step) → Stands self.old begun past → Stands self.new begun (told past ticket answer) }
+        ensures stands { (begun : Begun) (past : List Step) → Stands self.old begun past → Stands self.new begun (after_answer past ticket answer) }
         ensures end { self.new.end ≡ self.old.end }
         ensures count { length self.new.mailbox.tickets ≡ length self.old.mailbox.tickets }
     {

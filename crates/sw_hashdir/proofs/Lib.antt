@@ -1,4 +1,5 @@
 pub mod Directories
+pub mod Laws
 mod Listed
 mod Listings
 mod Obsoletes

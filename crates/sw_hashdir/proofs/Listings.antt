@@ -12,7 +12,7 @@ use Rattle.std.proofs.lemmas.Map.Lookups.{exact_unsigned}
 use Rattle.sw_hashpath.specs.declared.file_name.FileName.{FileName}
 use Rattle.sw_hashpath.specs.declared.file_name.FileName.TheVariants.{Data, Tombstone}
 use Rattle.sw_hashdir.specs.Directory.{HasEntry, HasEntryAt}
-use Rattle.sw_hashdir.specs.Laws.{entry_there, one_durable}
+use Rattle.sw_hashdir.proofs.Laws.{entry_there, one_durable}
 use Rattle.sw_hashdir.specs.Listing.{IsBefore, IsListingOf, ListingModel}
 use Rattle.sw_hashdir.specs.Order.{entry_key_cmp, name_cmp}
 use Rattle.sw_hashdir.specs.declared.entry.Entry.{Entry}

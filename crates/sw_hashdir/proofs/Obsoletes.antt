@@ -2,7 +2,7 @@
 use Rattle.std.proofs.Common.{◌≡◌, inl, inr, ◌↔◌, Bool, true, List, Contains, IsTrue, MatchOption, Option, Some, None, subst}
 use Rattle.sw_hashpath.specs.declared.file_name.FileName.{FileName}
 use Rattle.sw_hashdir.specs.Directory.{IsFloor}
-use Rattle.sw_hashdir.specs.Laws.{one_floor}
+use Rattle.sw_hashdir.proofs.Laws.{one_floor}
 use Rattle.sw_hashdir.specs.Obsolete.{IsBelow, IsBelowFloor, IsObsolete, IsTwin}
 use Rattle.sw_hashdir.specs.declared.floor.Floor.{Floor}
 

@@ -2,4 +2,5 @@ pub mod Digests
 mod FileNames
 pub mod Folders
 pub mod Hashes
+pub mod Laws
 pub mod Partitions

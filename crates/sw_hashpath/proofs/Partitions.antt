@@ -1,7 +1,7 @@
 -- The partition of a name is one of those that there are.
 use Rattle.std.proofs.Common.{ℕ, ◌^◌, ◌<◌, ◌≤◌, List}
 use Rattle.sw_types.specs.Name.{NameModel}
-use Rattle.sw_hashpath.specs.Laws.{part_below}
+use Rattle.sw_hashpath.proofs.Laws.{part_below}
 use Rattle.sw_hashpath.specs.Place.{hash_of, part_of}
 use Rattle.sw_hashpath.proofs.Digests.{IsHash-md5}
 

@@ -1,3 +1,2 @@
 pub mod FileName
-pub mod Laws
 pub mod Place

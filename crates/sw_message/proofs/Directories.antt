@@ -4,7 +4,7 @@ use Rattle.std.specs.Bool.{one_answer}
 use Rattle.sw_hashpath.specs.declared.file_name.FileName.{FileName}
 use Rattle.sw_hashpath.specs.declared.file_name.FileName.TheVariants.{Data, Tombstone}
 use Rattle.sw_hashdir.specs.Directory.{HasEntryAt, IsFloor}
-use Rattle.sw_hashdir.specs.Laws.{entry_there, level, one_durable as durable_once}
+use Rattle.sw_hashdir.proofs.Laws.{entry_there, level, one_durable as durable_once}
 use Rattle.sw_hashdir.specs.Listing.{IsBefore, IsListingOf, ListingModel}
 use Rattle.sw_hashdir.specs.Obsolete.{IsAfter}
 use Rattle.sw_hashdir.specs.declared.entry.Entry.{Entry}

@@ -4,7 +4,7 @@ use Rattle.std.proofs.lemmas.Option.{none-some, same_Some}
 use Rattle.sw_ring.specs.Cluster.{ClusterModel}
 use Rattle.sw_message.specs.Learnt.{AreKnown, HasOwn, IsGenuine, IsSoundBook, Keeps, KnowsReplies, Learnt, Nothing, Own, OwnDelete, OwnPut}
 use Rattle.sw_message.specs.Running.{AreCalls, CountsLoss, Hears, MayRun, StillTells, TellsSoundly}
-use Rattle.sw_message.specs.Transcript.{Gave, Hand, IsRun, Next, Step, Told, open_at, opens, told}
+use Rattle.sw_message.specs.Transcript.{Closed, Gave, Hand, IsRun, Next, Step, after_answer, open_at, opens}
 use Rattle.sw_message.specs.declared.link.Link as link
 use Rattle.sw_message.specs.declared.operation.Operation as operation
 use Rattle.sw_message.specs.declared.reply.Reply.{Reply}
@@ -26,15 +26,15 @@ module _ (before after : Learnt) (keeps : Keeps before after) where
   replies_kept : (cluster : ClusterModel) (past : List Step) → KnowsReplies cluster before past → KnowsReplies cluster after past
   replies_kept cluster [] known = tt
   replies_kept cluster (Gave sent ∷ past) known = replies_kept cluster past known
-  replies_kept cluster (Told sent None ∷ past) known = (tt, replies_kept cluster past known.1)
-  replies_kept cluster (Told sent (Some given) ∷ past) known =
+  replies_kept cluster (Closed sent None ∷ past) known = (tt, replies_kept cluster past known.1)
+  replies_kept cluster (Closed sent (Some given) ∷ past) known =
       ((λ other. keeps.heard _ (known.0.0 other), genuine_kept cluster given known.0.1), replies_kept cluster past known.1)
 
 -- the replies of a transcript are known, and the puts are sound
 pub are_known : (cluster : ClusterModel) (learnt : Learnt) → IsSoundBook cluster.policy learnt.book → (past : List Step) → KnowsReplies cluster learnt past → AreKnown cluster learnt past
 are_known cluster learnt sound [] known = sound
 are_known cluster learnt sound (Gave sent ∷ past) known = are_known cluster learnt sound past known
-are_known cluster learnt sound (Told sent answer ∷ past) known = (known.0, are_known cluster learnt sound past known.1)
+are_known cluster learnt sound (Closed sent answer ∷ past) known = (known.0, are_known cluster learnt sound past known.1)
 
 -- the puts are sound by what a link tells
 pub sound_told : (cluster : ClusterModel) (of : Option ClusterModel) (learnt : Option Learnt) (known : Learnt) → TellsSoundly of learnt → ((other : ClusterModel) → of ≡ Some other → cluster ≡ other) → learnt ≡ Some known
@@ -62,30 +62,30 @@ same_ticket : (n : ℕ) → (n == n) ≡ true
 same_ticket n = search rules
 
 module _ (sent : Sent) (answer : Option Reply) (past : List Step) where
-  told-gave : told (Gave sent ∷ past) sent.ticket answer ≡ Told sent answer ∷ Gave sent ∷ past
+  told-gave : after_answer (Gave sent ∷ past) sent.ticket answer ≡ Closed sent answer ∷ Gave sent ∷ past
   told-gave = rw (same_ticket sent.ticket) refl
 
-  none_open : opens past ≡ [] → opens (Told sent answer ∷ Gave sent ∷ past) ≡ []
+  none_open : opens past ≡ [] → opens (Closed sent answer ∷ Gave sent ∷ past) ≡ []
   none_open none = rw (none, same_ticket sent.ticket) refl
 
-  run_more : (machine : List Step → Next → Type 0) → machine past (Hand sent) → IsRun machine past → IsRun machine (Told sent answer ∷ Gave sent ∷ past)
+  run_more : (machine : List Step → Next → Type 0) → machine past (Hand sent) → IsRun machine past → IsRun machine (Closed sent answer ∷ Gave sent ∷ past)
   run_more machine hands run = (rw (same_ticket sent.ticket) refl, (hands, run))
 
   known_more : (MayBe : Type 0) (cluster : ClusterModel) (own : Own) (of : Option ClusterModel) (before after : Option Learnt) → StillTells MayBe before after → Hears of after sent.device sent.msg answer
       → ((known : Learnt) → after ≡ Some known → (other : ClusterModel) × (of ≡ Some other) × (cluster ≡ other))
       → ((known : Learnt) → before ≡ Some known → HasOwn own known × KnowsReplies cluster known past)
-      → (known : Learnt) → after ≡ Some known → HasOwn own known × KnowsReplies cluster known (Told sent answer ∷ Gave sent ∷ past)
+      → (known : Learnt) → after ≡ Some known → HasOwn own known × KnowsReplies cluster known (Closed sent answer ∷ Gave sent ∷ past)
   known_more MayBe cluster own of None after still hears same had known tells = absurd (none-some known (sym still ∙ tells))
   known_more MayBe cluster own of (Some before) None still hears same had known tells = absurd (none-some known tells)
   known_more MayBe cluster own None (Some before) (Some after) still hears same had known tells = let it = same after refl in absurd (none-some it.0 it.1)
   known_more MayBe cluster own (Some of) (Some before) (Some after) still hears same had known tells =
       let first = had before refl in
       let it = same after refl in
-      subst (λ (one : Learnt). HasOwn own one × KnowsReplies cluster one (Told sent answer ∷ Gave sent ∷ past)) (same_Some after known tells)
+      subst (λ (one : Learnt). HasOwn own one × KnowsReplies cluster one (Closed sent answer ∷ Gave sent ∷ past)) (same_Some after known tells)
       (own_kept before after still own first.0, (rw (it.2 ∙ sym (same_Some of it.0 it.1)) hears, replies_kept before after still cluster past first.1))
 
   may_run_more : (MayBe : Type 0) (cluster : ClusterModel) (own : Own) (of of' : Option ClusterModel) (before after : Option Learnt) → of' ≡ of → TellsSoundly of' after → StillTells MayBe before after → Hears of' after sent.device sent.msg answer
-      → MayRun cluster own past of before → MayRun cluster own (Told sent answer ∷ Gave sent ∷ past) of' after
+      → MayRun cluster own past of before → MayRun cluster own (Closed sent answer ∷ Gave sent ∷ past) of' after
   may_run_more MayBe cluster own of of' before after same sound still hears may = record {
     nothing_open = none_open may.nothing_open;
     same_cluster = λ other is. may.same_cluster other (sym same ∙ is);
@@ -126,13 +126,13 @@ module _ {S T : Type 0} (P : operation.Ghosts S) (L : link.Ghosts T) where
 
   pub goes_on : (first op gave took : S) (begin over called : T) (sent : Sent) (answer : Option Reply) → HasRun first begin op over → TellsSoundly (L.cluster called) (L.learnt called)
       → ((begun : P.Begun) (past : List Step) → P.stands op begun past → P.machine begun past (Hand sent) × P.stands gave begun (Gave sent ∷ past)) → IsCalled over sent answer called
-      → ((begun : P.Begun) (past : List Step) → P.stands gave begun past → P.stands took begun (told past sent.ticket answer))
+      → ((begun : P.Begun) (past : List Step) → P.stands gave begun past → P.stands took begun (after_answer past sent.ticket answer))
       → HasRun first begin took called
   goes_on first op gave took begin over called sent answer ran sound gives call takes =
       let more = ran.runs.0 in
       record {
         runs = (
-          Told sent answer ∷ Gave sent ∷ more,
+          Closed sent answer ∷ Gave sent ∷ more,
           (over, ran.runs.1, refl, call.calls, call.counts),
           λ begun past stood may.
               let now = ran.runs.2 begun past stood may in

@@ -6,7 +6,7 @@ use Rattle.sw_hashpath.specs.FileName.{file_name_text}
 use Rattle.sw_hashpath.specs.Place.{PlaceModel}
 use Rattle.sw_hashpath.specs.declared.file_name.FileName.{FileName}
 use Rattle.sw_hashpath.specs.declared.file_name.FileName.TheVariants.{Data, Tombstone}
-use Rattle.sw_hashdir.specs.Laws.{entry_there}
+use Rattle.sw_hashdir.proofs.Laws.{entry_there}
 use Rattle.sw_diskfile.proofs.Directories.{has_content}
 use Rattle.sw_diskfile.proofs.Obsoletes.{AreSame, one_directory}
 use Rattle.sw_ring.specs.Cluster.{ClusterModel}

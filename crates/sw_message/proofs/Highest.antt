@@ -12,7 +12,7 @@ use Rattle.sw_hashdir.specs.declared.entry.Entry.{Entry}
 use Rattle.sw_hashdir.specs.declared.floor.Floor.{Floor}
 use Rattle.sw_hashdir.specs.declared.floor.FloorKind.{FloorKind}
 use Rattle.sw_hashdir.specs.declared.floor.FloorKind.TheVariants.{Durable, Tombstone}
-use Rattle.sw_message.specs.FloorLaws.{highest_from-append}
+use Rattle.sw_message.proofs.FloorLaws.{highest_from-append}
 use Rattle.sw_message.specs.Floors.{IsHighest, durable_floor, higher, highest, highest_from, is_above, is_durable, is_tombstone, tombstone_floor}
 
 -- ---- the floors of a listing, one by one

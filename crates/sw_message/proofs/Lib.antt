@@ -1,7 +1,8 @@
 pub mod Ascending
 pub mod Ascents
-pub mod Distinct
 pub mod Directories
+pub mod Distinct
+pub mod FloorLaws
 pub mod Going
 mod Handlings
 pub mod Highest

@@ -6,7 +6,7 @@ use Rattle.md5.specs.Md5.{md5}
 use Rattle.sw_hashpath.specs.Place.{PlaceModel}
 use Rattle.sw_hashdir.specs.declared.floor.Floor.{Floor}
 use Rattle.sw_diskfile.proofs.Lists.{Contains-map, IsBefore as IsLess, IsBefore-never as IsLess-never, mapped, same_ascending}
-use Rattle.sw_suffix.specs.Laws.{IsBefore-never}
+use Rattle.sw_suffix.proofs.Laws.{IsBefore-never}
 use Rattle.sw_suffix.specs.Suffix.{suffix_number, suffix_text}
 use Rattle.sw_suffix.specs.Table.{AreHashes, Hashed, IsBefore, in_suffix}
 use Rattle.sw_message.specs.Step.{AreFloors, Folders}

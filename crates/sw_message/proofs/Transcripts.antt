@@ -6,7 +6,7 @@ use Rattle.std.proofs.lemmas.Bool.{cases_Bool, cases_eq, cond-false, cond-true, 
 use Rattle.std.proofs.lemmas.List.Elements.{All-filter}
 use Rattle.std.proofs.lemmas.Map.Views.{any-filter_same}
 use Rattle.sw_message.specs.Tickets.{AreTickets}
-use Rattle.sw_message.specs.Transcript.{Step, given, is_empty, is_not, is_waiting, open_at, opens, told, told_of}
+use Rattle.sw_message.specs.Transcript.{Step, after_answer, closed_by, given, is_empty, is_not, is_waiting, open_at, opens}
 use Rattle.sw_message.specs.declared.reply.Reply.{Reply}
 use Rattle.sw_message.specs.declared.sent.Sent.{Sent}
 
@@ -86,7 +86,7 @@ module _ (flags : List Bool) (past : List Step) (ticket : ℕ) (answer : Option 
     | inr apart ↦ get_or-set_other flags ticket other false false apart ∙ are.are_open other ∙ sym (others other apart)
   ]
 
-  answered : (opened : Option Sent) → open_at ticket past ≡ opened → AreTickets after (told_of past answer opened)
+  answered : (opened : Option Sent) → open_at ticket past ≡ opened → AreTickets after (closed_by past answer opened)
   answered None none = record {
     count = length-set flags ticket false ∙ are.count;
     are_open = at_each (λ other. is_some (open_at other past)) (ap is_some none) (λ other apart. refl);
@@ -94,11 +94,11 @@ module _ (flags : List Bool) (past : List Step) (ticket : ℕ) (answer : Option 
   }
   answered (Some sent) found =
       let is = eqb-true sent.ticket ticket (found_passes (has_ticket ticket) (opens past) sent found) in
-      subst (λ n. AreTickets after (told_of past answer (Some (record sent { ticket = n })))) (sym is) (record {
+      subst (λ n. AreTickets after (closed_by past answer (Some (record sent { ticket = n })))) (sym is) (record {
         count = length-set flags ticket false ∙ are.count;
         are_open = at_each (λ other. is_some (find (has_ticket other) (filter (is_not ticket) (opens past)))) (no_longer_open ticket (opens past)) (λ other apart. still_open ticket other (opens past) apart);
         below = All-filter (is_not ticket) (λ (other : Sent). other.ticket < length (given past)) (opens past) are.below;
       })
 
-  pub closes : AreTickets after (told past ticket answer)
+  pub closes : AreTickets after (after_answer past ticket answer)
   closes = answered (open_at ticket past) refl

@@ -6,7 +6,7 @@ use Rattle.sw_types.specs.Policy.{PolicyModel}
 use Rattle.sw_archive.specs.Archive.{ArchiveModel, IsArchive}
 use Rattle.sw_archive.specs.Put.{IsPut, put_fields}
 use Rattle.sw_ring.specs.Cluster.{ClusterModel}
-use Rattle.sw_message.specs.Transcript.{Gave, Step, Told}
+use Rattle.sw_message.specs.Transcript.{Closed, Gave, Step}
 use Rattle.sw_message.specs.declared.message.Msg.{Msg}
 use Rattle.sw_message.specs.declared.reply.Reply.{Reply}
 use Rattle.sw_message.specs.declared.reply.Reply.TheVariants as reply
@@ -85,10 +85,10 @@ KnowsReply cluster learnt device msg (Some given) = IsHeard learnt device msg gi
 abbrev pub KnowsReplies : ClusterModel → Learnt → List Step → Type 0
 KnowsReplies cluster learnt [] = ⊤
 KnowsReplies cluster learnt (Gave sent ∷ past) = KnowsReplies cluster learnt past
-KnowsReplies cluster learnt (Told sent answer ∷ past) = KnowsReply cluster learnt sent.device sent.msg answer × KnowsReplies cluster learnt past
+KnowsReplies cluster learnt (Closed sent answer ∷ past) = KnowsReply cluster learnt sent.device sent.msg answer × KnowsReplies cluster learnt past
 
 -- they are, and the puts that are known are sound
 abbrev pub AreKnown : ClusterModel → Learnt → List Step → Type 0
 AreKnown cluster learnt [] = IsSoundBook cluster.policy learnt.book
 AreKnown cluster learnt (Gave sent ∷ past) = AreKnown cluster learnt past
-AreKnown cluster learnt (Told sent answer ∷ past) = KnowsReply cluster learnt sent.device sent.msg answer × AreKnown cluster learnt past
+AreKnown cluster learnt (Closed sent answer ∷ past) = KnowsReply cluster learnt sent.device sent.msg answer × AreKnown cluster learnt past

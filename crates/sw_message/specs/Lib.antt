@@ -1,4 +1,3 @@
-pub mod FloorLaws
 pub mod Floors
 pub mod Learnt
 pub mod Message

@@ -6,7 +6,7 @@ use Rattle.sw_types.specs.Object.{ObjectModel}
 use Rattle.sw_ring.specs.Cluster.{ClusterModel}
 use Rattle.sw_message.specs.Learnt.{HasOwn, IsSoundLearnt, Keeps, KnowsReplies, KnowsReply, Learnt, Own}
 use Rattle.sw_message.specs.Message.{IsMember, IsPlaceOf, place_in}
-use Rattle.sw_message.specs.Transcript.{Gave, Step, Told, opens}
+use Rattle.sw_message.specs.Transcript.{Closed, Gave, Step, opens}
 use Rattle.sw_message.specs.declared.message.Msg.{Msg}
 use Rattle.sw_message.specs.declared.reply.Reply.{Reply}
 
@@ -41,11 +41,11 @@ pub record CountsLoss (before after : ℕ) (answer : Option Reply) : Type 0 wher
 -- The calls of a link that the last steps of a transcript were: each message once, and its answer next.
 abbrev pub AreCalls : {L : Type 0} → (L → ℕ → Msg → Option Reply → L → Type 0) → (L → ℕ) → L → List Step → L → Type 0
 AreCalls calls losses before [] after = before ≡ after
-AreCalls {L} calls losses before (Told sent answer ∷ Gave same ∷ more) after =
+AreCalls {L} calls losses before (Closed sent answer ∷ Gave same ∷ more) after =
     (between : L) × AreCalls calls losses before more between × (same ≡ sent) × calls between sent.device sent.msg answer after
     × CountsLoss (losses between) (losses after) answer
-AreCalls calls losses before (Told sent answer ∷ Told same again ∷ more) after = ⊥
-AreCalls calls losses before (Told sent answer ∷ []) after = ⊥
+AreCalls calls losses before (Closed sent answer ∷ Closed same again ∷ more) after = ⊥
+AreCalls calls losses before (Closed sent answer ∷ []) after = ⊥
 AreCalls calls losses before (Gave sent ∷ more) after = ⊥
 
 -- Before an operation goes on over a link, no message is open; where the link has a cluster, it is that of the operation; where it

@@ -7,7 +7,7 @@ use Rattle.sw_message.specs.declared.sent.Sent.{Sent}
 -- a message was handed out; it was answered, or given up where there is no answer
 pub data Step : Type 0 where
   Gave : (sent : Sent) → Step
-  Told : (sent : Sent) → (answer : Option Reply) → Step
+  Closed : (sent : Sent) → (answer : Option Reply) → Step
 
 -- what comes after a transcript: a message is handed out, an answer is waited for, or the operation is over
 pub data Next : Type 0 where
@@ -19,7 +19,7 @@ pub data Next : Type 0 where
 abbrev pub given : List Step → List Sent
 given [] = []
 given (Gave sent ∷ past) = sent ∷ given past
-given (Told sent answer ∷ past) = given past
+given (Closed sent answer ∷ past) = given past
 
 -- a device was not sent such a message before
 abbrev pub IsFirst : List Step → Sent → Type 0
@@ -32,7 +32,7 @@ is_not ticket sent = not (sent.ticket == ticket)
 abbrev pub opens : List Step → List Sent
 opens [] = []
 opens (Gave sent ∷ past) = sent ∷ opens past
-opens (Told sent answer ∷ past) = filter (is_not sent.ticket) (opens past)
+opens (Closed sent answer ∷ past) = filter (is_not sent.ticket) (opens past)
 
 abbrev pub is_empty : {A : Type 0} → List A → Bool
 is_empty [] = true
@@ -45,17 +45,17 @@ is_waiting past = not (is_empty (opens past))
 abbrev pub open_at : ℕ → List Step → Option Sent
 open_at ticket past = find (λ (sent : Sent). sent.ticket == ticket) (opens past)
 
-abbrev pub told_of : List Step → Option Reply → Option Sent → List Step
-told_of past answer None = past
-told_of past answer (Some sent) = Told sent answer ∷ past
+abbrev pub closed_by : List Step → Option Reply → Option Sent → List Step
+closed_by past answer None = past
+closed_by past answer (Some sent) = Closed sent answer ∷ past
 
 -- the transcript once an answer came for a ticket: one that is not open is ignored
-abbrev pub told : List Step → ℕ → Option Reply → List Step
-told past ticket answer = told_of past answer (open_at ticket past)
+abbrev pub after_answer : List Step → ℕ → Option Reply → List Step
+after_answer past ticket answer = closed_by past answer (open_at ticket past)
 
 -- A transcript of a machine, which is a relation between a transcript and what comes next: each message is one that the machine
 -- hands out after the steps before it, and each answer is for an open message.
 abbrev pub IsRun : (List Step → Next → Type 0) → List Step → Type 0
 IsRun machine [] = ⊤
 IsRun machine (Gave sent ∷ past) = machine past (Hand sent) × IsRun machine past
-IsRun machine (Told sent answer ∷ past) = (open_at sent.ticket past ≡ Some sent) × IsRun machine past
+IsRun machine (Closed sent answer ∷ past) = (open_at sent.ticket past ≡ Some sent) × IsRun machine past

@@ -19,7 +19,7 @@ mod target;
 mod tickets;
 
 pub use crate::checking::{check_asked, check_named};
-pub use crate::devices::primaries;
+pub use crate::devices::{is_primary, primaries, total_of};
 pub use crate::draw::{Draw, DrawFault};
 pub use crate::floors::{higher, highest_with, is_above, refuses, stands_above};
 pub use crate::laws::{highest_law, sound_law, step_law};

@@ -4,7 +4,7 @@ ghost use Rattle.std.specs.Prelude.{◌≡◌, ◌⊎◌, ◌<◌, ℕ, Bool, tr
 ghost use Rattle.sw_ring.specs.Cluster.{ClusterModel};
 ghost use Rattle.sw_message.specs.Learnt.{AreKnown, HasOwn, Learnt, Own};
 ghost use Rattle.sw_message.specs.Running.{IsOf};
-ghost use Rattle.sw_message.specs.Transcript.{Next, Hand, Over, Wait, Gave, Step, is_waiting, told};
+ghost use Rattle.sw_message.specs.Transcript.{Gave, Hand, Next, Over, Step, Wait, after_answer, is_waiting};
 ghost use Rattle.sw_message.specs.Warrant.{IsWarranted};
 
 use crate::reply::Reply;
@@ -51,13 +51,13 @@ pub trait Operation {
 
     /// Takes the reply to a message. A ticket that is not open is ignored. It takes no memory.
     fn take(&mut self, ticket: u64, reply: Reply)
-        ensures goes_on { (begun : Begun) (past : List Step) → stands self.old begun past → stands self.new begun (told past ticket (Some reply)) }
+        ensures goes_on { (begun : Begun) (past : List Step) → stands self.old begun past → stands self.new begun (after_answer past ticket (Some reply)) }
         ensures ended { has_ended self.new ≡ has_ended self.old }
         ensures left { left self.new ≡ left self.old };
 
     /// Gives a message up. A ticket that is not open is ignored. It takes no memory.
     fn give_up(&mut self, ticket: u64)
-        ensures goes_on { (begun : Begun) (past : List Step) → stands self.old begun past → stands self.new begun (told past ticket None) }
+        ensures goes_on { (begun : Begun) (past : List Step) → stands self.old begun past → stands self.new begun (after_answer past ticket None) }
         ensures ended { has_ended self.new ≡ has_ended self.old }
         ensures left { left self.new ≡ left self.old };
 

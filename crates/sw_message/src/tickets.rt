@@ -2,7 +2,7 @@
 
 ghost use Rattle.std.specs.Prelude.{◌≡◌, ◌+◌, [], ◌∷◌, List, Option, IfOk, OnErr, is_some, length};
 ghost use Rattle.sw_message.specs.Tickets.{AreTickets};
-ghost use Rattle.sw_message.specs.Transcript.{Gave, Step, given, is_waiting, open_at, told};
+ghost use Rattle.sw_message.specs.Transcript.{Gave, Step, after_answer, given, is_waiting, open_at};
 ghost use Rattle.sw_message.specs.declared.reply.Reply.{Reply as AReply};
 ghost use Rattle.sw_message.specs.declared.sent.Sent.{Sent as ASent};
 
@@ -57,7 +57,7 @@ impl Tickets {
     /// Closes a ticket, and says whether it was open.
     pub fn close(&mut self, ticket: u64) -> bool
         ensures was_open { (past : List Step) → AreTickets self.old past → result ≡ is_some (open_at ticket past) }
-        ensures goes_on { (past : List Step) (answer : Option AReply) → AreTickets self.old past → AreTickets self.new (told past ticket answer) }
+        ensures goes_on { (past : List Step) (answer : Option AReply) → AreTickets self.old past → AreTickets self.new (after_answer past ticket answer) }
         ensures count { length self.new ≡ length self.old }
     {
         match self.are_open.get_mut(ticket as usize) {

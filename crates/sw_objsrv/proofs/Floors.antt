@@ -18,8 +18,8 @@ use Rattle.sw_message.specs.Step.{AreFloors}
 use Rattle.sw_objsrv.specs.Folder.{AreInOrder, HaveSameFloors, HaveSameOtherFloors}
 use Rattle.sw_objsrv.specs.Handling.{AreKept, folders_of}
 use Rattle.sw_disk.specs.declared.refusal.DiskRefusal.{DiskRefusal}
-use Rattle.sw_hashdir.specs.Laws.{one_floor}
-use Rattle.sw_suffix.specs.Laws.{IsBefore-never}
+use Rattle.sw_hashdir.proofs.Laws.{one_floor}
+use Rattle.sw_suffix.proofs.Laws.{IsBefore-never}
 
 -- ---- the floor of a directory
 

@@ -29,7 +29,7 @@ use Rattle.sw_objsrv.specs.Changing.{LeavesOrder}
 use Rattle.sw_hashpath.proofs.Folders.{one_place}
 use Rattle.sw_objsrv.proofs.Told.{Both, both_each, both_told, has_told, told_after, told_both, told_still}
 use Rattle.sw_diskfile.proofs.Directories.{same_or_other}
-use Rattle.sw_hashdir.specs.Laws.{twin_more}
+use Rattle.sw_hashdir.proofs.Laws.{twin_more}
 
 -- ---- one folder
 

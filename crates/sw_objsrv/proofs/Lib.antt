@@ -14,7 +14,6 @@ pub mod PlaceFolders
 pub mod PlaceStep
 pub mod Purging
 pub mod ReadTexts
-pub mod Roles
 pub mod Room
 pub mod RowCalls
 pub mod RowForms

@@ -6,7 +6,7 @@ use Rattle.std.proofs.lemmas.Fmt.{length-decimal-le}
 use Rattle.hex.specs.Hex.{encode_lower}
 use Rattle.sw_hashpath.specs.Place.{IsPlace, PlaceModel, folder_of}
 use Rattle.sw_hashpath.proofs.Hashes.{length-encode_lower}
-use Rattle.sw_hashpath.specs.Laws.{part_below}
+use Rattle.sw_hashpath.proofs.Laws.{part_below}
 
 -- the partition of a place is one of those that there are
 pub part_within : (power : ℕ) (place : PlaceModel) → IsPlace power place → place.part < 2 ^ power

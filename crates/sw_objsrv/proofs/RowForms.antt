@@ -9,7 +9,7 @@ use Rattle.sw_hashpath.specs.Place.{PlaceModel, folder_of}
 use Rattle.sw_hashpath.specs.declared.file_name.FileName.{FileName}
 use Rattle.sw_hashpath.specs.declared.file_name.FileName.TheVariants.{Data, Tombstone}
 use Rattle.sw_hashdir.specs.Directory.{HasFloorAt, IsDirectory, IsFloor}
-use Rattle.sw_hashdir.specs.Laws.{entry_there, twin_more}
+use Rattle.sw_hashdir.proofs.Laws.{entry_there, twin_more}
 use Rattle.sw_hashdir.specs.Obsolete.{IsAfter, IsObsolete}
 use Rattle.sw_hashdir.specs.declared.floor.Floor.{Floor}
 use Rattle.sw_hashdir.specs.declared.floor.FloorKind.{FloorKind}

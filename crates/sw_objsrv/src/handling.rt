@@ -15,12 +15,11 @@ use crate::committing::commit;
 use crate::deleting::delete;
 use crate::reading::{ask, fetch};
 use crate::removing::remove;
-use crate::role::is_primary;
 use crate::storing::put_frag;
 use crate::surveying::{parts, places, suffixes};
 use std::alloc::Global;
 use sw_disk::{Disk, DiskRefusal};
-use sw_message::{Msg, Reply};
+use sw_message::{Msg, Reply, is_primary};
 use sw_ring::Cluster;
 use sw_suffix::SuffixTable;
 

@@ -12,7 +12,6 @@ mod mounting;
 mod node;
 mod reading;
 mod removing;
-mod role;
 mod storing;
 mod surveying;
 

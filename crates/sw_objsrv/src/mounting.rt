@@ -11,11 +11,11 @@ ghost use Rattle.sw_objsrv.specs.Folder.{AreInOrder, IsInOrder};
 ghost use Rattle.sw_objsrv.specs.Mounting.{IsFolderOf, Mounts, TidiesEach, fault_of};
 
 use crate::fault::MountFault;
-use crate::role::is_primary;
 use std::alloc::Global;
 use sw_disk::Disk;
 use sw_diskfile::tidy;
 use sw_hashpath::read_folder;
+use sw_message::is_primary;
 use sw_ring::Cluster;
 use sw_suffix::SuffixTable;
 

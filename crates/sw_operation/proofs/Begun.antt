@@ -7,7 +7,7 @@ use Rattle.sw_get.specs.Get as gets
 use Rattle.sw_get.specs.Standing as get_standing
 use Rattle.sw_put.specs.Put as puts
 use Rattle.sw_put.specs.Standing as put_standing
-use Rattle.sw_core.specs.Operating.{Begun, Delete, Get, Head, Put, Revert, Sync}
+use Rattle.sw_operation.specs.Operating.{Begun, Delete, Get, Head, Put, Revert, Sync}
 use Rattle.sw_operation.specs.Standing.{Stands}
 use Rattle.sw_operation.specs.declared.any_op.AnyOp.TheVariants as any
 

@@ -6,8 +6,8 @@ use Rattle.sw_types.proofs.Policies.{bounds}
 use Rattle.sw_ring.specs.Cluster.{ClusterModel, KeepsRules, column_of}
 use Rattle.sw_ring.proofs.Roles.{column_length}
 use Rattle.sw_message.specs.Transcript.{Over, Step}
-use Rattle.sw_quorum.specs.DueLaws.{over}
-use Rattle.sw_quorum.specs.Lookups.{slice_get_none}
+use Rattle.sw_quorum.proofs.DueLaws.{over}
+use Rattle.sw_quorum.proofs.Lookups.{slice_get_none}
 use Rattle.sw_delete.specs.Delete as deletes
 use Rattle.sw_delete.proofs.Transcripts as delete_transcripts
 use Rattle.sw_delete.specs.declared.end.DeleteEnd.{DeleteEnd}
@@ -25,7 +25,7 @@ use Rattle.sw_sync.specs.Sync as syncs
 use Rattle.sw_sync.specs.State.{State}
 use Rattle.sw_sync.specs.declared.errand.Errand.TheVariants as errand
 use Rattle.sw_sync.proofs.Changes as sync_changes
-use Rattle.sw_core.specs.Operating.{Begun, Delete, Get, Head, IsBegun, IsNext, Put, Revert, Sync}
+use Rattle.sw_operation.specs.Operating.{Begun, Delete, Get, Head, IsBegun, IsNext, Put, Revert, Sync}
 use Rattle.sw_operation.specs.Standing.{Stands, has_ended}
 use Rattle.sw_operation.specs.declared.any_op.AnyOp.{AnyOp}
 use Rattle.sw_operation.specs.declared.any_op.AnyOp.TheVariants as any

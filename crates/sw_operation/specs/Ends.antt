@@ -6,9 +6,9 @@ use Rattle.sw_get.specs.Get as gets
 use Rattle.sw_put.specs.Put as puts
 use Rattle.sw_recon.specs.Revert as reverts
 use Rattle.sw_sync.specs.Sync as syncs
-use Rattle.sw_core.specs.Operating.{Begun, Delete, Get, Head, Put, Revert, Sync}
-use Rattle.sw_told.specs.declared.end.OpEnd.{OpEnd}
-use Rattle.sw_told.specs.declared.end.OpEnd.TheVariants as end
+use Rattle.sw_operation.specs.Operating.{Begun, Delete, Get, Head, Put, Revert, Sync}
+use Rattle.sw_operation.specs.declared.end.OpEnd.{OpEnd}
+use Rattle.sw_operation.specs.declared.end.OpEnd.TheVariants as end
 
 -- an operation that was begun so has ended in this way after a transcript; a get's end is told with the object, and a head's is that of a get
 abbrev pub IsEndOf : Begun → List Step → OpEnd → Type 0

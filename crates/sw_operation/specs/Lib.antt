@@ -1,2 +1,3 @@
 pub mod Ends
+pub mod Operating
 pub mod Standing

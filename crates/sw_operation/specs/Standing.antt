@@ -6,7 +6,7 @@ use Rattle.sw_get.specs.Standing as gets
 use Rattle.sw_put.specs.Standing as puts
 use Rattle.sw_recon.specs.Standing as reverts
 use Rattle.sw_sync.specs.Standing as syncs
-use Rattle.sw_core.specs.Operating.{Begun, Delete, Get, Head, Put, Revert, Sync}
+use Rattle.sw_operation.specs.Operating.{Begun, Delete, Get, Head, Put, Revert, Sync}
 use Rattle.sw_operation.specs.declared.any_op.AnyOp.{AnyOp}
 use Rattle.sw_operation.specs.declared.any_op.AnyOp.TheVariants as any
 

@@ -1,6 +1,6 @@
 //! An operation of any kind.
 
-ghost use Rattle.sw_core.specs.Operating.{Begun, IsNext, cluster_of, own_of};
+ghost use Rattle.sw_operation.specs.Operating.{Begun, IsNext, cluster_of, own_of};
 ghost use Rattle.sw_operation.specs.Standing.{Stands, has_ended, left};
 
 use sw_delete::DeleteOp;

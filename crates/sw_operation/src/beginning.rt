@@ -1,20 +1,18 @@
 //! How operations begin.
 
-ghost use Rattle.std.specs.Prelude.{◌≡◌, ◌<◌, ◌≤◌, ◌^◌, [], IfOk, OnOk, false};
+ghost use Rattle.std.specs.Prelude.{◌≡◌, ◌≤◌, [], IfOk, OnOk, false};
 ghost use Rattle.sw_types.specs.Stamp.{greatest_stamp};
 ghost use Rattle.sw_archive.specs.Put.{IsPut};
 ghost use Rattle.sw_ring.specs.Cluster.{place_of_name};
 ghost use Rattle.sw_message.specs.Message.{IsMember, is_primary};
-ghost use Rattle.sw_core.specs.Event.{recon_of};
-ghost use Rattle.sw_core.specs.Operating.{Delete, Get, Head, IsBegun, Put};
+ghost use Rattle.sw_operation.specs.Operating.{Delete, Get, Head, IsBegun, Put, recon_of};
 ghost use Rattle.sw_operation.specs.Standing.{Stands, has_ended};
 
 use crate::any_op::AnyOp;
 use std::alloc::Global;
 use sw_delete::DeleteOp;
 use sw_get::GetOp;
-use sw_hashpath::Place;
-use sw_message::primaries;
+use sw_message::is_primary;
 use sw_put::PutOp;
 use sw_recon::RevertJob;
 use sw_ring::Cluster;
@@ -92,7 +90,7 @@ impl<'a> AnyOp<'a> {
         ensures running { IfOk result (λ op. has_ended op ≡ false) }
     {
         let place = cluster.place(alloc, name)?;
-        if is_primary(alloc, cluster, device, &place)? {
+        if is_primary(cluster, device, &place) {
             let job = SyncJob::begin(alloc, cluster, device, place)?;
             Ok(AnyOp::Sync(job))
         } else {
@@ -100,17 +98,4 @@ impl<'a> AnyOp<'a> {
             Ok(AnyOp::Revert(job))
         }
     }
-}
-
-// Whether a device is a primary of a place.
-fn is_primary(
-    alloc: Global,
-    cluster: &Cluster,
-    device: u16,
-    place: &Place,
-) -> Result<bool, NoMemory>
-    requires { place.now.part < 2 ^ cluster.now.part_power }
-    ensures { IfOk result (λ is. is ≡ is_primary cluster.now device place.now) }
-{
-    Ok(primaries(alloc, cluster, place.part())?.contains(&device))
 }

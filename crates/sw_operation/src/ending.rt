@@ -2,12 +2,12 @@
 
 ghost use Rattle.std.specs.Prelude.{◌≡◌, List, MatchOption, is_some, true};
 ghost use Rattle.sw_message.specs.Transcript.{Step};
-ghost use Rattle.sw_core.specs.Operating.{Begun};
+ghost use Rattle.sw_operation.specs.Operating.{Begun};
 ghost use Rattle.sw_operation.specs.Ends.{IsEndOf};
 ghost use Rattle.sw_operation.specs.Standing.{Stands, has_ended};
 
 use crate::any_op::AnyOp;
-use sw_told::OpEnd;
+use crate::end::OpEnd;
 
 impl<'a> AnyOp<'a> {
     /// How it ended, once `next` has found that it is over, handed out.

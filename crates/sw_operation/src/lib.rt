@@ -3,9 +3,11 @@
 
 mod any_op;
 mod beginning;
+mod end;
 mod ending;
 
 pub use crate::any_op::AnyOp;
+pub use crate::end::OpEnd;
 
 #[cfg(test)]
 mod tests;

@@ -4,8 +4,8 @@ ghost use Rattle.std.specs.Prelude.{◌≡◌};
 ghost use Rattle.sw_ring.specs.Cluster.{ids_of};
 ghost use Rattle.sw_ring.specs.Ring.{is_among};
 
-use crate::AnyOp;
 use crate::tests::Kind::{Delete, Get, Head, Put, Recon};
+use crate::{AnyOp, OpEnd};
 use std::alloc::Global;
 use std::test::Fail;
 use sw_delete::DeleteEnd;
@@ -15,7 +15,6 @@ use sw_put::PutEnd;
 use sw_recon::RevertEnd;
 use sw_ring::{Cluster, built_in};
 use sw_sync::SyncEnd;
-use sw_told::OpEnd;
 use sw_types::{Bytes, Name, Object, Stamp};
 
 #[derive(Clone, Copy, Debug)]

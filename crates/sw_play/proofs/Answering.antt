@@ -8,21 +8,21 @@ use Rattle.sw_ring.specs.Cluster.{ClusterModel, ids_of}
 use Rattle.sw_ring.specs.Ring.{is_among}
 use Rattle.sw_message.specs.Step.{Folders}
 use Rattle.sw_message.specs.Table.{Handling}
-use Rattle.sw_message.specs.Transcript.{Step, Told, given}
+use Rattle.sw_message.specs.Transcript.{Closed, Step, given}
 use Rattle.sw_message.specs.declared.message.Msg.{Msg}
 use Rattle.sw_message.specs.declared.message.Msg.TheVariants as message
 use Rattle.sw_message.specs.declared.reply.Reply.{Reply}
 use Rattle.sw_message.specs.declared.reply.Reply.TheVariants as reply
 use Rattle.sw_message.specs.declared.sent.Sent.{Sent}
-use Rattle.sw_scene.specs.Devices.{IsDeviceStep}
-use Rattle.sw_scene.specs.Disks.{Disk, Sure}
-use Rattle.sw_scene.specs.Moves.{Handles, requests_of}
-use Rattle.sw_scene.specs.Scene.{Answer, DeviceState, Mail, Request, Scene, is_up, set_disk}
+use Rattle.sw_law_scene.specs.Devices.{IsDeviceStep}
+use Rattle.sw_law_scene.specs.Disks.{Disk, Sure}
+use Rattle.sw_law_scene.specs.Moves.{Handles, requests_of}
+use Rattle.sw_law_scene.specs.Scene.{Answer, DeviceState, Message, Request, Scene, is_up, set_disk}
 use Rattle.sw_core.specs.Event.{Begins, Proceeds, begins, idle, with_scene}
-use Rattle.sw_core.specs.Operating.{Begun}
+use Rattle.sw_operation.specs.Operating.{Begun}
 use Rattle.sw_core.specs.World.{Operating, World, numbered}
 use Rattle.sw_core.proofs.Numbered.{pushed-last}
-use Rattle.sw_world.proofs.Places.{replaced-at}
+use Rattle.sw_sim_world.proofs.Slots.{replaced-at}
 use Rattle.sw_play.proofs.OpenMessages.{handed-given, handed-told}
 
 -- ---- answers
@@ -73,9 +73,9 @@ module _ (number : ℕ) (begun : Begun) (up : ℕ → Bool) where
     pub up_is : (device : ℕ) → is_up world.scene device ≡ up device
     pub there : numbered world.operations number ≡ Some operation
     pub begun_is : operation.begun ≡ begun
-    pub made : (sent : Sent) → Contains (given past) sent → (at : ℕ) × Contains world.scene.mail (Request at number sent)
-    pub answers : (at : ℕ) (sent : Sent) (reply : Reply) → Contains world.scene.mail (Answer at number sent reply) → (up sent.device ≡ true) × Answers sent.msg reply
-    pub missed : (sent : Sent) → Contains past (Told sent None) → up sent.device ≡ false
+    pub made : (sent : Sent) → Contains (given past) sent → (at : ℕ) × Contains world.scene.messages (Request at number sent)
+    pub answers : (at : ℕ) (sent : Sent) (reply : Reply) → Contains world.scene.messages (Answer at number sent reply) → (up sent.device ≡ true) × Answers sent.msg reply
+    pub missed : (sent : Sent) → Contains past (Closed sent None) → up sent.device ≡ false
 
   -- so it is of its own transcript
   pub record IsAnswering (world : World) : Type 0 where
@@ -102,7 +102,7 @@ module _ (number : ℕ) (begun : Begun) (up : ℕ → Bool) where
             up_is = λ device. up_still world.scene sent.device (Sure handling.folders) device ∙ is.goes.up_is device;
             there = is.goes.there;
             begun_is = is.goes.begun_is;
-            made = λ one has. let was = is.goes.made one has in (was.0, Contains-append_left world.scene.mail (given_now ∷ []) (Request was.0 number one) was.1);
+            made = λ one has. let was = is.goes.made one has in (was.0, Contains-append_left world.scene.messages (given_now ∷ []) (Request was.0 number one) was.1);
             answers = λ at other reply has. ⊎_elim
                 (λ old. is.goes.answers at other reply old)
                 (λ new.
@@ -110,7 +110,7 @@ module _ (number : ℕ) (begun : Begun) (up : ℕ → Bool) where
                 let replied : handling.reply ≡ reply = cc in
                 subst (λ (one : Sent). (up one.device ≡ true) × Answers one.msg reply) same
                 (is_up_now, subst (Answers sent.msg) replied (answers_so world.scene.cluster sent.device sent.msg handling.reply handling.found handling.folders handling.step)))
-                (Contains-push_cases world.scene.mail given_now (Answer at number other reply) has);
+                (Contains-push_cases world.scene.messages given_now (Answer at number other reply) has);
             missed = is.goes.missed;
           };
         })
@@ -128,32 +128,32 @@ module _ (number : ℕ) (begun : Begun) (up : ℕ → Bool) where
           there = replaced-at world.operations number operation goes.later is.there;
           begun_is = kept ∙ is.begun_is;
           made = λ sent has. ⊎_elim
-              (λ old. let was = is.made sent old in (was.0, Contains-append_left world.scene.mail news (Request was.0 number sent) was.1))
-              (λ new. (world.scene.now, Contains-append_right world.scene.mail news (Request world.scene.now number sent) (Contains-map (λ (one : Sent). Request world.scene.now number one) goes.sents sent new)))
+              (λ old. let was = is.made sent old in (was.0, Contains-append_left world.scene.messages news (Request was.0 number sent) was.1))
+              (λ new. (world.scene.now, Contains-append_right world.scene.messages news (Request world.scene.now number sent) (Contains-map (λ (one : Sent). Request world.scene.now number one) goes.sents sent new)))
               (handed-given operation.begun goes.sents past goes.later.past goes.goes_on.handed sent has);
           answers = λ at sent reply has. ⊎_elim
               (λ old. is.answers at sent reply old)
               (λ new. let from = mapped (λ (one : Sent). Request world.scene.now number one) goes.sents (Answer at number sent reply) new in absurd (cc))
-              (Contains-append_cases world.scene.mail news (Answer at number sent reply) has);
+              (Contains-append_cases world.scene.messages news (Answer at number sent reply) has);
           missed = λ sent has. is.missed sent (handed-told operation.begun goes.sents past goes.later.past goes.goes_on.handed sent None has);
         };
       })
     where
-      news : List Mail
+      news : List Message
       news = requests_of world.scene.now number goes.sents
 
   -- ---- it begins
 
   -- where no reply to its number was made, and the scene has the same devices and messages
-  pub begins_so : (old : World) → number ≡ length old.operations + 1 → ((device : ℕ) → is_up old.scene device ≡ up device) → ((at : ℕ) (sent : Sent) (reply : Reply) → Contains old.scene.mail (Answer at number sent reply) → ⊥)
-      → (scene : Scene) → ((device : ℕ) → is_up scene device ≡ is_up old.scene device) → scene.mail ≡ old.scene.mail → (after : World) → Begins begun scene old after → IsAnswering after
-  begins_so old number_is up_is unanswered scene same_up same_mail after goes =
+  pub begins_so : (old : World) → number ≡ length old.operations + 1 → ((device : ℕ) → is_up old.scene device ≡ up device) → ((at : ℕ) (sent : Sent) (reply : Reply) → Contains old.scene.messages (Answer at number sent reply) → ⊥)
+      → (scene : Scene) → ((device : ℕ) → is_up scene device ≡ is_up old.scene device) → scene.messages ≡ old.scene.messages → (after : World) → Begins begun scene old after → IsAnswering after
+  begins_so old number_is up_is unanswered scene same_up same_messages after goes =
       let last = pushed-last old.operations (begins begun old) in
       proceeds (record old { scene = scene; operations = old.operations ++ begins begun old ∷ [] }) (begins begun old) [] (record {
         up_is = λ device. same_up device ∙ up_is device;
         there = subst (λ (n : ℕ). numbered (old.operations ++ begins begun old ∷ []) n ≡ Some (begins begun old)) (sym number_is) last;
         begun_is = refl;
         made = λ sent has. absurd (Contains-none sent has);
-        answers = λ at sent reply has. absurd (unanswered at sent reply (subst (λ (mails : List Mail). Contains mails (Answer at number sent reply)) same_mail has));
-        missed = λ sent has. absurd (Contains-none (Told sent None) has);
+        answers = λ at sent reply has. absurd (unanswered at sent reply (subst (λ (messages : List Message). Contains messages (Answer at number sent reply)) same_messages has));
+        missed = λ sent has. absurd (Contains-none (Closed sent None) has);
       }) after (subst (λ (n : ℕ). Proceeds (record old { scene = scene; operations = old.operations ++ begins begun old ∷ [] }) n (begins begun old) [] after) (sym number_is) goes)

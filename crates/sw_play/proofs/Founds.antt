@@ -10,27 +10,27 @@ use Rattle.sw_get.specs.Get as gets
 use Rattle.sw_get.specs.declared.end.GetEnd.{GetEnd}
 use Rattle.sw_get.specs.declared.end.GetEnd.TheVariants as get
 use Rattle.sw_core.specs.Event.{Event, IsRun}
-use Rattle.sw_core.specs.Operating.{Begun, Delete, Get, Head, IsGetOf, Put, Revert, Sync}
+use Rattle.sw_operation.specs.Operating.{Begun, Delete, Get, Head, IsGetOf, Put, Revert, Sync}
 use Rattle.sw_core.specs.World.{Operating, numbered}
 use Rattle.sw_core.proofs.Runs.{found}
 use Rattle.sw_operation.specs.Ends.{IsEndOf}
-use Rattle.sw_told.specs.declared.end.EndLine.{EndLine}
-use Rattle.sw_told.specs.declared.end.OpEnd.{OpEnd}
-use Rattle.sw_told.specs.declared.end.OpEnd.TheVariants as end
-use Rattle.sw_world.specs.Scripted.{AreSteps, Scripted, Step}
-use Rattle.sw_world.specs.Doing.{DoesEvent, Done}
+use Rattle.sw_sim_exchange.specs.declared.lines.EndLine.{EndLine}
+use Rattle.sw_operation.specs.declared.end.OpEnd.{OpEnd}
+use Rattle.sw_operation.specs.declared.end.OpEnd.TheVariants as end
+use Rattle.sw_sim_world.specs.ScriptedWorld.{AreSteps, ScriptedWorld, Step}
+use Rattle.sw_sim_world.specs.Doing.{DoesEvent, Done}
 use Rattle.sw_play.specs.Story.{IfFound, IfFoundEnd, TellsOnePut}
-use Rattle.sw_world.specs.Unfolding.{TellsEnd, TellsEnds, ended_from}
-use Rattle.sw_world.proofs.Ended.{ended_over, zip_beside}
+use Rattle.sw_sim_world.specs.Unfolding.{TellsEnd, TellsEnds, ended_from}
+use Rattle.sw_sim_world.proofs.Ended.{ended_over, zip_beside}
 use Rattle.sw_play.proofs.Overs.{over_stays}
 
 -- ---- whose end is told
 
 -- the operation of an end that is told
-abbrev pub IsEndIn : Scripted → EndLine → Type 0
+abbrev pub IsEndIn : ScriptedWorld → EndLine → Type 0
 IsEndIn after line = (operation : Operating) × (numbered after.world.operations line.operation ≡ Some operation) × IsEndOf operation.begun operation.past line.end
 
-pub ends_in : (before : Scripted) (steps : List Step) (after : Scripted) (ends : List EndLine) → AreSteps before steps after → TellsEnds before steps ends → (line : EndLine) → Contains ends line → IsEndIn after line
+pub ends_in : (before : ScriptedWorld) (steps : List Step) (after : ScriptedWorld) (ends : List EndLine) → AreSteps before steps after → TellsEnds before steps ends → (line : EndLine) → Contains ends line → IsEndIn after line
 ends_in before [] after ends are none line has = absurd (Contains-none line (subst (λ (lines : List EndLine). Contains lines line) none has))
 ends_in before (step ∷ steps) after ends (first, rest) (mine, others, both, told, later) line has = ⊎_elim
     (λ here.
@@ -73,7 +73,7 @@ module _ (P : ℕ → ObjectModel → List Target → Type 0) where
   by_kind begun past holds (end.Sync how) is = tt
   by_kind begun past holds (end.Revert how) is = tt
 
-pub tells_one_put : (cluster : ClusterModel) (events : List Event) (before : Scripted) (done : Done) → DoesEvent before done → IsRun cluster events done.after.world → TellsOnePut done
+pub tells_one_put : (cluster : ClusterModel) (events : List Event) (before : ScriptedWorld) (done : Done) → DoesEvent before done → IsRun cluster events done.after.world → TellsOnePut done
 tells_one_put cluster events before done does run line has =
     let (operation, there, is) = ends_in before done.steps done.after done.told.ends does.steps does.tells.ends line has in
     by_kind _ operation.begun operation.past

@@ -17,32 +17,32 @@ use Rattle.sw_get.specs.declared.round_end.KeptEvent.{KeptEvent}
 use Rattle.sw_put.specs.Put as puts
 use Rattle.sw_put.specs.declared.end.PutEnd.{PutEnd}
 use Rattle.sw_put.specs.declared.end.PutEnd.TheVariants.{Created}
-use Rattle.sw_scene.specs.Scene.{is_up}
+use Rattle.sw_law_scene.specs.Scene.{is_up}
 use Rattle.sw_core.specs.Event as core
 use Rattle.sw_core.specs.Event.{IsRun, stamp_in}
-use Rattle.sw_core.specs.Operating.{Begun, Delete, IsGetOf, Put}
+use Rattle.sw_operation.specs.Operating.{Begun, Delete, IsGetOf, Put}
 use Rattle.sw_core.specs.World.{Operating, World, numbered}
 use Rattle.sw_core.proofs.Happening.{run-sound}
 use Rattle.sw_operation.specs.Ends.{IsEndOf}
-use Rattle.sw_alone.specs.Alone.{AGet, AHead, IsAlone}
-use Rattle.sw_alone.specs.Alone as alone
-use Rattle.sw_steady.specs.Steady.{kept_events}
-use Rattle.sw_alone.proofs.Ends.{alone_kept, alone_not_overtaken}
-use Rattle.sw_complete.specs.Complete.{AreReady, HasOwnPlace, HaveRoom, RunsAlone}
-use Rattle.sw_complete.specs.Ends.{EndsByWhatIsThere}
-use Rattle.sw_complete.proofs.DeleteEnds.{delete_deleted}
-use Rattle.sw_complete.proofs.GetComplete.{get_complete}
-use Rattle.sw_complete.proofs.PutEnds.{put_created}
+use Rattle.sw_law_alone.specs.Alone.{AGet, AHead, IsAlone}
+use Rattle.sw_law_alone.specs.Alone as alone
+use Rattle.sw_law_steady.specs.Steady.{kept_events}
+use Rattle.sw_law_alone.proofs.Ends.{alone_kept, alone_not_overtaken}
+use Rattle.sw_law_complete.specs.Complete.{AreReady, HasOwnPlace, HaveRoom, RunsAlone}
+use Rattle.sw_law_complete.specs.Ends.{EndsByWhatIsThere}
+use Rattle.sw_law_complete.proofs.DeleteEnds.{delete_deleted}
+use Rattle.sw_law_complete.proofs.GetComplete.{get_complete}
+use Rattle.sw_law_complete.proofs.PutEnds.{put_created}
 use Rattle.sw_script.specs.declared.event.Event.{Event}
 use Rattle.sw_script.specs.declared.event.Job.{Job}
 use Rattle.sw_script.specs.declared.event.Job.TheVariants as job
-use Rattle.sw_told.specs.declared.end.OpEnd.{OpEnd}
-use Rattle.sw_told.specs.declared.end.OpEnd.TheVariants as end
-use Rattle.sw_world.specs.Doing.{Done}
-use Rattle.sw_world.specs.Scripted.{Scripted}
-use Rattle.sw_world.specs.Standing.{IsLetterOf}
-use Rattle.sw_world.specs.Unfolding.{Unfolds, job_of}
-use Rattle.sw_world.proofs.Places.{zip-length}
+use Rattle.sw_operation.specs.declared.end.OpEnd.{OpEnd}
+use Rattle.sw_operation.specs.declared.end.OpEnd.TheVariants as end
+use Rattle.sw_sim_world.specs.Doing.{Done}
+use Rattle.sw_sim_world.specs.ScriptedWorld.{ScriptedWorld}
+use Rattle.sw_sim_world.specs.Standing.{IsLetterOf}
+use Rattle.sw_sim_world.specs.Unfolding.{Unfolds, job_of}
+use Rattle.sw_sim_world.proofs.Slots.{zip-length}
 use Rattle.sw_play.specs.Promised.{IsGetEnd}
 use Rattle.sw_play.specs.Full.{AreUp, EndsInFull, IsReading, RunsJob, TellsLoneGet}
 use Rattle.sw_play.proofs.GetEnds.{get_told, reads, told_get}
@@ -54,15 +54,15 @@ use Rattle.sw_play.proofs.StoryLines.{AllStoodFor, StoodFor}
 
 -- ---- a line that runs a job
 
-module _ (before : Scripted) (done : Done) (line : StoodFor before done) (of : Job) (operation : Operating) (how : OpEnd) (runs : RunsJob before done of operation how) where
+module _ (before : ScriptedWorld) (done : Done) (line : StoodFor before done) (of : Job) (operation : Operating) (how : OpEnd) (runs : RunsJob before done of operation how) where
   abbrev cluster : ClusterModel
   cluster = before.world.scene.cluster
 
   run : IsRun cluster line.stood.events before.world
   run = subst (λ (one : ClusterModel). IsRun one line.stood.events before.world) (sym line.stood.cluster_is) line.stood.run
 
-  within : (message : ℕ) → Contains before.delivered message → message ≤ length before.world.scene.mail
-  within message has = omega (arith, line.stood.within message has, zip-length IsLetterOf line.earlier.letters before.world.scene.mail line.stood.letters)
+  within : (message : ℕ) → Contains before.delivered message → message ≤ length before.world.scene.messages
+  within message has = omega (arith, line.stood.within message has, zip-length IsLetterOf line.earlier.letters before.world.scene.messages line.stood.letters)
 
   ran : RanAlone cluster before of done.after
   ran =
@@ -128,7 +128,7 @@ module _ (before : Scripted) (done : Done) (line : StoodFor before done) (of : J
 
 -- ---- a get beside which nothing steps
 
-module _ (before : Scripted) (done : Done) (line : StoodFor before done) (operation : Operating) (how : OpEnd) (get : gets.Begun) (lone : TellsLoneGet before done operation how get) where
+module _ (before : ScriptedWorld) (done : Done) (line : StoodFor before done) (operation : Operating) (how : OpEnd) (get : gets.Begun) (lone : TellsLoneGet before done operation how get) where
   kept : (turns : List gets.Turn) → gets.AreTurns get operation.past turns → length (kept_events get turns) ≤ 1
   kept turns are = alone_kept before.world.scene.cluster done.after.world lone.tells.line.operation operation get turns lone.alone lone.tells.there lone.begun_is are lone.alike
 
@@ -157,7 +157,7 @@ delete_how delete past (end.Put other) one none is = absurd none
 delete_how delete past (end.Sync other) one none is = absurd none
 delete_how delete past (end.Revert other) one none is = absurd none
 
-module _ (before : Scripted) (done : Done) (line : StoodFor before done) (name : NameModel) (operation : Operating) (how : OpEnd) (ready : AreReady before.world.scene) where
+module _ (before : ScriptedWorld) (done : Done) (line : StoodFor before done) (name : NameModel) (operation : Operating) (how : OpEnd) (ready : AreReady before.world.scene) where
   -- how many devices store a name
   abbrev all : ℕ
   all = before.world.scene.cluster.policy.k + before.world.scene.cluster.policy.m
@@ -185,7 +185,7 @@ module _ (before : Scripted) (done : Done) (line : StoodFor before done) (name :
 abbrev get_in : World → NameModel → gets.Begun
 get_in world name = record { cluster = world.scene.cluster; name = name }
 
-module _ (before : Scripted) (done : Done) (line : StoodFor before done) (operation : Operating) (how : OpEnd) (ready : AreReady before.world.scene) where
+module _ (before : ScriptedWorld) (done : Done) (line : StoodFor before done) (operation : Operating) (how : OpEnd) (ready : AreReady before.world.scene) where
   -- a job that reads a name ends by what devices have at its place
   reading_ends : (name : NameModel) (of : Job) → RunsJob before done of operation how → alone.IsReading name (job_of of) → IsGetOf (begun_by before.world (job_of of)) (get_in before.world name) → HasOwnPlace before.world.scene name
       → (ending : GetEnd) × IsGetEnd how ending × EndsByWhatIsThere before.world.scene (place_of_name before.world.scene.cluster name) ending
@@ -211,13 +211,13 @@ module _ (before : Scripted) (done : Done) (line : StoodFor before done) (operat
 -- ---- a story
 
 -- devices that are up are ready, for the disks of a world of the program are sure
-ready_if : (before : Scripted) (done : Done) → StoodFor before done → AreUp before.world.scene → AreReady before.world.scene
+ready_if : (before : ScriptedWorld) (done : Done) → StoodFor before done → AreUp before.world.scene → AreReady before.world.scene
 ready_if before done line up = record {
   up = up;
   sure = λ device member. let is = line.stood.devices device (subst (λ (one : ClusterModel). IsMember one device) line.stood.cluster_is member) in (is.folders, is.sure);
 }
 
-module _ (first : Scripted) (story : List Done) (stood : AllStoodFor first story) where
+module _ (first : ScriptedWorld) (story : List Done) (stood : AllStoodFor first story) where
   pub ends_in_full : EndsInFull first story
   ends_in_full = record {
     kept = λ before done operation how begun turns line lone are. kept before done (stood before done line) operation how begun lone turns are;

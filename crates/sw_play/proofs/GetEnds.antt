@@ -7,13 +7,12 @@ use Rattle.sw_message.specs.Transcript.{Step}
 use Rattle.sw_get.specs.Get as gets
 use Rattle.sw_get.specs.declared.end.GetEnd.{GetEnd}
 use Rattle.sw_core.specs.Event as core
-use Rattle.sw_core.specs.Event.{recon_of}
-use Rattle.sw_core.specs.Operating.{Begun, Delete, Get, Head, IsGetOf, Put, Revert, Sync}
+use Rattle.sw_operation.specs.Operating.{Begun, Delete, Get, Head, IsGetOf, Put, Revert, Sync, recon_of}
 use Rattle.sw_core.specs.World.{World}
 use Rattle.sw_operation.specs.Ends.{IsEndOf}
-use Rattle.sw_alone.specs.Alone.{AGet, AHead, IsReading}
-use Rattle.sw_told.specs.declared.end.OpEnd.{OpEnd}
-use Rattle.sw_told.specs.declared.end.OpEnd.TheVariants as end
+use Rattle.sw_law_alone.specs.Alone.{AGet, AHead, IsReading}
+use Rattle.sw_operation.specs.declared.end.OpEnd.{OpEnd}
+use Rattle.sw_operation.specs.declared.end.OpEnd.TheVariants as end
 use Rattle.sw_play.specs.Promised.{IsGetEnd}
 use Rattle.sw_play.proofs.OwnStarts.{begun_by}
 

@@ -13,17 +13,17 @@ use Rattle.sw_put.specs.Put as puts
 use Rattle.sw_put.specs.declared.end.PutEnd.TheVariants.{Created}
 use Rattle.sw_put.proofs.Ends as created
 use Rattle.sw_core.specs.Event.{Event, IsRun}
-use Rattle.sw_core.specs.Operating.{Begun, Get, Head, IsGetOf}
+use Rattle.sw_operation.specs.Operating.{Begun, Get, Head, IsGetOf}
 use Rattle.sw_core.specs.World.{Operating}
 use Rattle.sw_operation.specs.Ends.{IsEndOf}
-use Rattle.sw_headline.specs.Headline.{EndsLater, IsAfterDelete, IsAfterPut}
-use Rattle.sw_headline.proofs.NeverOlder.{never_older}
-use Rattle.sw_headline.proofs.Shows.{shows}
-use Rattle.sw_headline.proofs.StaysDeleted.{stays_deleted}
-use Rattle.sw_told.specs.declared.end.OpEnd.{OpEnd}
-use Rattle.sw_told.specs.declared.end.OpEnd.TheVariants as end
-use Rattle.sw_world.specs.Scripted.{Scripted}
-use Rattle.sw_world.specs.Doing.{DoesEvent, Done}
+use Rattle.sw_law_headline.specs.Headline.{EndsLater, IsAfterDelete, IsAfterPut}
+use Rattle.sw_law_headline.proofs.NeverOlder.{never_older}
+use Rattle.sw_law_headline.proofs.Shows.{shows}
+use Rattle.sw_law_headline.proofs.StaysDeleted.{stays_deleted}
+use Rattle.sw_operation.specs.declared.end.OpEnd.{OpEnd}
+use Rattle.sw_operation.specs.declared.end.OpEnd.TheVariants as end
+use Rattle.sw_sim_world.specs.ScriptedWorld.{ScriptedWorld}
+use Rattle.sw_sim_world.specs.Doing.{DoesEvent, Done}
 use Rattle.sw_play.specs.Promised.{ComesBefore, IsGetEnd, KeepsWord, TellsAfterDelete, TellsAfterPut, TellsEndOf, TellsLaterGet}
 use Rattle.sw_play.proofs.Founds.{ends_in}
 use Rattle.sw_play.proofs.Starts.{started-later}
@@ -32,7 +32,7 @@ use Rattle.sw_play.proofs.Stories.{AreDone, Does, both_done}
 -- ---- ends
 
 -- the end that a line tells is that of its operation
-pub told_end : (before : Scripted) (done : Done) (operation : Operating) (how : OpEnd) → DoesEvent before done → TellsEndOf done operation how → IsEndOf operation.begun operation.past how
+pub told_end : (before : ScriptedWorld) (done : Done) (operation : Operating) (how : OpEnd) → DoesEvent before done → TellsEndOf done operation how → IsEndOf operation.begun operation.past how
 told_end before done operation how does tells =
     let (other, there, is) = ends_in before done.steps done.after done.told.ends does.steps does.tells.ends tells.line tells.told in
     let same : other ≡ operation = same_Some other operation (sym there ∙ tells.there) in
@@ -131,7 +131,7 @@ module _ (cluster : ClusterModel) (earlier later : Done) (done : AreDone cluster
 
 -- ---- a story
 
-module _ (cluster : ClusterModel) (first : Scripted) (events : List Event) (run : IsRun cluster events first.world) (story : List Done) (last : Scripted) (does : Does first story last) where
+module _ (cluster : ClusterModel) (first : ScriptedWorld) (events : List Event) (run : IsRun cluster events first.world) (story : List Done) (last : ScriptedWorld) (does : Does first story last) where
   both : (earlier later : Done) → ComesBefore story earlier later → AreDone cluster earlier later
   both earlier later comes = both_done cluster first events run story last earlier later does comes
 

@@ -3,18 +3,18 @@ use Rattle.std.proofs.Common.{◌≡◌, inr, List, Some, Result, Ok, Err, ℕ, 
 use Rattle.std.specs.Prelude.{IfErr, OnOk, ⊤}
 use Rattle.sw_script.specs.Line.{event_of}
 use Rattle.sw_script.specs.declared.event.Event.{Event}
-use Rattle.sw_world.specs.Leading.{FaultsBy}
+use Rattle.sw_sim_world.specs.Leading.{FaultsBy}
 use Rattle.sw_play.specs.Lines.{DoesLine, StopsEvent, StopsLine, TellsEvent, stop_of}
-use Rattle.sw_world.specs.Scripted.{Scripted}
-use Rattle.sw_world.specs.Standing.{WorldModel}
-use Rattle.sw_world.specs.declared.fault.StepFault.{StepFault}
-use Rattle.sw_world.specs.declared.fault.StepFault.TheVariants as step
+use Rattle.sw_sim_world.specs.ScriptedWorld.{ScriptedWorld}
+use Rattle.sw_sim_world.specs.Standing.{WorldModel}
+use Rattle.sw_sim_world.specs.declared.fault.StepFault.{StepFault}
+use Rattle.sw_sim_world.specs.declared.fault.StepFault.TheVariants as step
 use Rattle.sw_play.specs.declared.playing.LineStop.{LineStop}
 use Rattle.sw_play.specs.declared.playing.LineStop.TheVariants.{Fault, Spent, NoMemory}
 
 -- ---- an event that a world does not do
 
-module _ (before : Scripted) (event : Event) (old new : WorldModel) where
+module _ (before : ScriptedWorld) (event : Event) (old new : WorldModel) where
   stops_by : (fault : StepFault) → FaultsBy event before fault old new → StopsEvent before event (stop_of fault) old new
   stops_by step.NoSuchMessage faults = faults
   stops_by step.NoSuchDevice faults = faults
@@ -37,7 +37,7 @@ wants_memory fault stop is wants = stop_wants fault (sym is ∙ wants)
 
 -- ---- the line of an event
 
-module _ (before : Scripted) (line : List ℕ) (event : Event) (read : event_of line ≡ Ok (Some event)) (old new : WorldModel) where
+module _ (before : ScriptedWorld) (line : List ℕ) (event : Event) (read : event_of line ≡ Ok (Some event)) (old new : WorldModel) where
   -- what its event does
   pub event_line : (text more : List ℕ) (result : Result ⊤ LineStop) → OnOk result (TellsEvent before event new text more) → OnOk result (DoesLine before line new text more)
   event_line text more (Ok done) does = (Some event, read, does)

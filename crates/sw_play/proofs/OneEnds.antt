@@ -5,9 +5,9 @@ use Rattle.sw_message.specs.Transcript.{Step}
 use Rattle.sw_get.proofs.Machine as gets
 use Rattle.sw_recon.proofs.Machine as reverts
 use Rattle.sw_sync.proofs.Sameness as syncs
-use Rattle.sw_core.specs.Operating.{Begun, Delete, Get, Head, IsBegun, Put, Revert, Sync}
-use Rattle.sw_told.specs.declared.end.OpEnd.{OpEnd}
-use Rattle.sw_told.specs.declared.end.OpEnd.TheVariants as end
+use Rattle.sw_operation.specs.Operating.{Begun, Delete, Get, Head, IsBegun, Put, Revert, Sync}
+use Rattle.sw_operation.specs.declared.end.OpEnd.{OpEnd}
+use Rattle.sw_operation.specs.declared.end.OpEnd.TheVariants as end
 use Rattle.sw_operation.specs.Ends.{IsEndOf}
 
 pub one_end : (begun : Begun) (past : List Step) (one other : OpEnd) → IsBegun begun → IsEndOf begun past one → IsEndOf begun past other → one ≡ other

@@ -5,18 +5,18 @@ use Rattle.std.proofs.lemmas.Bool.{cases_order, cond-true}
 use Rattle.sw_ring.specs.Cluster.{ClusterModel, KeepsRules}
 use Rattle.sw_message.specs.Transcript.{opens}
 use Rattle.sw_message.specs.declared.sent.Sent.{Sent}
-use Rattle.sw_scene.specs.Devices.{no_folders}
-use Rattle.sw_scene.specs.Scene.{Mail}
+use Rattle.sw_law_scene.specs.Devices.{no_folders}
+use Rattle.sw_law_scene.specs.Scene.{Message}
 use Rattle.sw_core.specs.Event.{Crash, CrashMount, Deliver, Event, Fault, GiveUp, Happens, IsRun, Lose, Restart, SetClock, Start, Stop}
 use Rattle.sw_core.specs.World.{World}
-use Rattle.sw_events.proofs.Leads.{run-more}
-use Rattle.sw_determined.specs.Cut.{IsCutWithin}
-use Rattle.sw_determined.specs.Sure.{AreSure, IsDetermined, KeepsSure}
+use Rattle.sw_core.proofs.Leads.{run-more}
+use Rattle.sw_law_determined.specs.Cut.{IsCutWithin}
+use Rattle.sw_law_determined.specs.Sure.{AreSure, IsDetermined, KeepsSure}
 use Rattle.sw_script.specs.declared.event.Event as script
 use Rattle.sw_script.specs.declared.event.Event.TheVariants as event
 use Rattle.sw_script.specs.declared.event.Job.{Job}
-use Rattle.sw_world.specs.Scripted.{AreSteps, IsAny, IsLeast, IsOver, IsOwn, IsStep, NoneWaits, Scripted, Step, count_of, delivered_by, empty_script, events_in, open_tickets, tickets_in}
-use Rattle.sw_world.specs.Unfolding.{DeliversAll, IsCutAt, RunsOut, StartsAndRunsOut, Unfolds, job_of}
+use Rattle.sw_sim_world.specs.ScriptedWorld.{AreSteps, IsAny, IsLeast, IsOver, IsOwn, IsStep, NoneWaits, ScriptedWorld, Step, count_of, delivered_by, empty_script, events_in, open_tickets, tickets_in}
+use Rattle.sw_sim_world.specs.Unfolding.{DeliversAll, IsCutAt, RunsOut, StartsAndRunsOut, Unfolds, job_of}
 
 -- what the law of events says
 pub record EventLaw : Type 0 where
@@ -26,13 +26,13 @@ pub record EventLaw : Type 0 where
   pub sure : (world after : World) (event : Event) → AreSure world.scene → KeepsSure event → Happens event world after → AreSure after.scene
 
 -- a world of a script: events of a run led to it, and its disks are sure
-pub record IsReached (cluster : ClusterModel) (scripted : Scripted) : Type 0 where
+pub record IsReached (cluster : ClusterModel) (scripted : ScriptedWorld) : Type 0 where
   pub events : List Event
   pub run : IsRun cluster events scripted.world
   pub sure : AreSure scripted.world.scene
 
 -- steps are the same, and lead to one world of a script
-abbrev pub AreOne : ClusterModel → (steps others : List Step) → (after later : Scripted) → Type 0
+abbrev pub AreOne : ClusterModel → (steps others : List Step) → (after later : ScriptedWorld) → Type 0
 AreOne cluster steps others after later = (steps ≡ others) × (after ≡ later) × IsReached cluster after
 
 pub empty_reached : (cluster : ClusterModel) → KeepsRules cluster → IsReached cluster (empty_script cluster)
@@ -45,7 +45,7 @@ keeps_sure (CrashMount device) none = tt
 keeps_sure event determined = tt
 
 -- of the messages that wait one is the least
-one_least : (Such : Mail → Type 0) (scripted : Scripted) (one other : ℕ) → IsLeast Such scripted one → IsLeast Such scripted other → one ≡ other
+one_least : (Such : Message → Type 0) (scripted : ScriptedWorld) (one other : ℕ) → IsLeast Such scripted one → IsLeast Such scripted other → one ≡ other
 one_least Such scripted one other x y = elim (cases_order one other) [
   | inl same ↦ same
   | inr (inl less) ↦ absurd (y.least one less x.waits)
@@ -53,7 +53,7 @@ one_least Such scripted one other x y = elim (cases_order one other) [
 ]
 
 -- an operation that is over, and none of whose messages waits, does not run on
-not_on : (number : ℕ) (before : Scripted) (step : Step) (steps : List Step) → IsOver number before → NoneWaits (IsOwn number) before → RunsOut number before [] (step ∷ steps) → ⊥
+not_on : (number : ℕ) (before : ScriptedWorld) (step : Step) (steps : List Step) → IsOver number before → NoneWaits (IsOwn number) before → RunsOut number before [] (step ∷ steps) → ⊥
 not_on number before step steps over none (inl goes) = none goes.0 goes.1.waits
 not_on number before step steps over none (inr gives) =
     let closed : open_tickets number before ≡ [] =
@@ -77,7 +77,7 @@ give_ups number (ticket ∷ tickets) = (tt, give_ups number tickets)
 
 -- ---- one step, told twice
 
-module _ (before : Scripted) (one other : Step) (is : IsStep before one) (also : IsStep before other) where
+module _ (before : ScriptedWorld) (one other : Step) (is : IsStep before one) (also : IsStep before other) where
   same_step : one.event ≡ other.event → one.after.world ≡ other.after.world → one ≡ other
   same_step events worlds =
       let delivered : one.after.delivered ≡ other.after.delivered = is.delivered ∙ ap (λ (event : Event). delivered_by event before.delivered) events ∙ sym also.delivered in
@@ -85,20 +85,20 @@ module _ (before : Scripted) (one other : Step) (is : IsStep before one) (also :
 
 module _ (law : EventLaw) (cluster : ClusterModel) where
   -- a step leads on to a world of a script
-  reached-next : (before : Scripted) (step : Step) → IsReached cluster before → KeepsSure step.event → IsStep before step → IsReached cluster step.after
+  reached-next : (before : ScriptedWorld) (step : Step) → IsReached cluster before → KeepsSure step.event → IsStep before step → IsReached cluster step.after
   reached-next before step reached kept is = record {
     events = reached.events ++ step.event ∷ [];
     run = run-more cluster reached.events before.world step.event step.after.world reached.run is.happens;
     sure = law.sure before.world step.after.world step.event reached.sure kept is.happens;
   }
 
-  module _ (before : Scripted) (reached : IsReached cluster before) where
-    no_steps : (after later : Scripted) → after ≡ before → later ≡ before → AreOne cluster [] [] after later
+  module _ (before : ScriptedWorld) (reached : IsReached cluster before) where
+    no_steps : (after later : ScriptedWorld) → after ≡ before → later ≡ before → AreOne cluster [] [] after later
     no_steps after later x y = (refl, x ∙ sym y, subst (IsReached cluster) (sym x) reached)
 
     -- a step of one event, and then the same ones
-    and_then : (one other : Step) → IsStep before one → IsStep before other → (event : Event) → IsDetermined event → one.event ≡ event → other.event ≡ event → (steps others : List Step) (after later : Scripted)
-        → (Rest : Scripted → List Step → Type 0) → Rest other.after others → AreSteps other.after others later
+    and_then : (one other : Step) → IsStep before one → IsStep before other → (event : Event) → IsDetermined event → one.event ≡ event → other.event ≡ event → (steps others : List Step) (after later : ScriptedWorld)
+        → (Rest : ScriptedWorld → List Step → Type 0) → Rest other.after others → AreSteps other.after others later
         → (IsReached cluster one.after → Rest one.after others → AreSteps one.after others later → AreOne cluster steps others after later) → AreOne cluster (one ∷ steps) (other ∷ others) after later
     and_then one other is also event determined first second steps others after later Rest rest still goes_on =
         let worlds = law.one cluster reached.events before.world one.after.world other.after.world event reached.run reached.sure determined
@@ -110,7 +110,7 @@ module _ (law : EventLaw) (cluster : ClusterModel) where
 
   -- ---- by a list of events
 
-  by_events : (steps others : List Step) (before after later : Scripted) → IsReached cluster before → AreDetermined (events_in steps) → events_in others ≡ events_in steps → AreSteps before steps after → AreSteps before others later
+  by_events : (steps others : List Step) (before after later : ScriptedWorld) → IsReached cluster before → AreDetermined (events_in steps) → events_in others ≡ events_in steps → AreSteps before steps after → AreSteps before others later
       → AreOne cluster steps others after later
   by_events [] [] before after later reached determined same x y = no_steps before reached after later x y
   by_events [] (other ∷ others) before after later reached determined same x y = absurd (cc)
@@ -121,20 +121,20 @@ module _ (law : EventLaw) (cluster : ClusterModel) where
       and_then before reached one other x.0 y.0 one.event determined.0 refl second steps others after later (λ between these. events_in these ≡ events_in steps) more y.1
       (λ next rest still. by_events steps others one.after after later next determined.1 rest x.1 still)
 
-  by_one : (event : Event) → IsDetermined event → (steps others : List Step) (before after later : Scripted) → IsReached cluster before → events_in steps ≡ event ∷ [] → AreSteps before steps after → events_in others ≡ event ∷ []
+  by_one : (event : Event) → IsDetermined event → (steps others : List Step) (before after later : ScriptedWorld) → IsReached cluster before → events_in steps ≡ event ∷ [] → AreSteps before steps after → events_in others ≡ event ∷ []
       → AreSteps before others later → AreOne cluster steps others after later
   by_one event determined steps others before after later reached x are y also = by_events steps others before after later reached (subst AreDetermined (sym x) (determined, tt)) (y ∙ sym x) are also
 
   -- ---- a crash
 
-  module _ (message calls pick : ℕ) (before : Scripted) where
-    cut_within : (step : Step) (after : Scripted) → step.event ≡ Crash message → after ≡ step.after → IsStep before step → IsCutAt before message calls pick after → IsCutWithin before.world message calls pick step.after.world
+  module _ (message calls pick : ℕ) (before : ScriptedWorld) where
+    cut_within : (step : Step) (after : ScriptedWorld) → step.event ≡ Crash message → after ≡ step.after → IsStep before step → IsCutAt before message calls pick after → IsCutWithin before.world message calls pick step.after.world
     cut_within step after event same is cut = record {
       happens = subst (λ (this : Event). Happens this before.world step.after.world) event is.happens;
-      cut = (subst (λ (this : Scripted). IsCutAt before message calls pick this) same cut).cut;
+      cut = (subst (λ (this : ScriptedWorld). IsCutAt before message calls pick this) same cut).cut;
     }
 
-    by_crash : (steps others : List Step) (after later : Scripted) → IsReached cluster before → events_in steps ≡ Crash message ∷ [] → IsCutAt before message calls pick after → AreSteps before steps after
+    by_crash : (steps others : List Step) (after later : ScriptedWorld) → IsReached cluster before → events_in steps ≡ Crash message ∷ [] → IsCutAt before message calls pick after → AreSteps before steps after
         → events_in others ≡ Crash message ∷ [] → IsCutAt before message calls pick later → AreSteps before others later → AreOne cluster steps others after later
     by_crash steps others after later reached x cut are y cut_too also =
         let one = only_step steps (Crash message) x in
@@ -150,7 +150,7 @@ module _ (law : EventLaw) (cluster : ClusterModel) where
 
   -- ---- the least that waits first
 
-  all_once : (steps others : List Step) (before after later : Scripted) → IsReached cluster before → DeliversAll before steps → AreSteps before steps after → DeliversAll before others → AreSteps before others later
+  all_once : (steps others : List Step) (before after later : ScriptedWorld) → IsReached cluster before → DeliversAll before steps → AreSteps before steps after → DeliversAll before others → AreSteps before others later
       → AreOne cluster steps others after later
   all_once [] [] before after later reached x are y also = no_steps before reached after later are also
   all_once [] (other ∷ others) before after later reached none are y also = absurd (none y.0 y.1.waits)
@@ -160,7 +160,7 @@ module _ (law : EventLaw) (cluster : ClusterModel) where
       and_then before reached one other are.0 also.0 (Deliver x.0) tt x.2 (y.2 ∙ ap Deliver (sym same)) steps others after later (λ between these. DeliversAll between these) y.3 also.1
       (λ next rest still. all_once steps others one.after after later next x.3 are.1 rest still)
 
-  runs_once : (number : ℕ) (tickets : List ℕ) (steps others : List Step) (before after later : Scripted) → IsReached cluster before → RunsOut number before tickets steps → AreSteps before steps after
+  runs_once : (number : ℕ) (tickets : List ℕ) (steps others : List Step) (before after later : ScriptedWorld) → IsReached cluster before → RunsOut number before tickets steps → AreSteps before steps after
       → RunsOut number before tickets others → AreSteps before others later → AreOne cluster steps others after later
   runs_once number [] [] [] before after later reached x are y also = no_steps before reached after later are also
   runs_once number [] [] (other ∷ others) before after later reached x are y also = absurd (not_on number before other others x.0 x.1 y)
@@ -184,7 +184,7 @@ module _ (law : EventLaw) (cluster : ClusterModel) where
       and_then before reached one other are.0 also.0 (GiveUp number ticket) tt x.0 y.0 steps others after later (λ between these. RunsOut number between tickets these) y.1 also.1
       (λ next runs still. runs_once number tickets steps others one.after after later next x.1 are.1 runs still)
 
-  starts_and_runs_once : (job : Job) (steps others : List Step) (before after later : Scripted) → IsReached cluster before → StartsAndRunsOut job before steps → AreSteps before steps after → StartsAndRunsOut job before others
+  starts_and_runs_once : (job : Job) (steps others : List Step) (before after later : ScriptedWorld) → IsReached cluster before → StartsAndRunsOut job before steps → AreSteps before steps after → StartsAndRunsOut job before others
       → AreSteps before others later → AreOne cluster steps others after later
   starts_and_runs_once job [] others before after later reached x are y also = absurd x
   starts_and_runs_once job (one ∷ steps) [] before after later reached x are y also = absurd y
@@ -194,7 +194,7 @@ module _ (law : EventLaw) (cluster : ClusterModel) where
 
   -- ---- lines
 
-  module _ (before : Scripted) (steps others : List Step) (after later : Scripted) (reached : IsReached cluster before) where
+  module _ (before : ScriptedWorld) (steps others : List Step) (after later : ScriptedWorld) (reached : IsReached cluster before) where
     by_none : steps ≡ [] → AreSteps before steps after → others ≡ [] → AreSteps before others later → AreOne cluster steps others after later
     by_none x are y also =
         let here : after ≡ before = subst (λ (list : List Step). AreSteps before list after) x are in

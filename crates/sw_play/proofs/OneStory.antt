@@ -8,10 +8,10 @@ use Rattle.sw_core.proofs.Happening.{run-sound}
 use Rattle.sw_script.specs.Line.{event_of}
 use Rattle.sw_script.specs.declared.event.Event.{Event}
 use Rattle.sw_script.specs.declared.fault.LineFault.{LineFault}
-use Rattle.sw_told.specs.Text.{told_text}
-use Rattle.sw_world.specs.Doing.{DoesEvent, Done, event_fault}
-use Rattle.sw_world.specs.Scripted.{AreSteps, Scripted, Step, empty_script}
-use Rattle.sw_world.specs.Unfolding.{Tells, Unfolds}
+use Rattle.sw_sim_text.specs.Text.{told_text}
+use Rattle.sw_sim_world.specs.Doing.{DoesEvent, Done, event_fault}
+use Rattle.sw_sim_world.specs.ScriptedWorld.{AreSteps, ScriptedWorld, Step, empty_script}
+use Rattle.sw_sim_world.specs.Unfolding.{Tells, Unfolds}
 use Rattle.sw_play.specs.Play.{IsRun}
 use Rattle.sw_play.specs.Same.{ArePlayedAlike, IsFront}
 use Rattle.sw_play.specs.Story.{DoesOrSpends, Plays, PlaysEvent, PlaysLine, Stops, story_text}
@@ -22,7 +22,7 @@ use Rattle.sw_play.proofs.OneTold.{told_once}
 
 -- ---- where one stops
 
-module _ (before : Scripted) (story other : List Done) (end how : PlayEnd) (after later : Scripted) where
+module _ (before : ScriptedWorld) (story other : List Done) (end how : PlayEnd) (after later : ScriptedWorld) where
   stop_alike : (cause : PlayEnd) → Stops cause before story end after → Stops cause before other how later → ArePlayedAlike story other end how after later
   stop_alike cause x y = inl (x.0 ∙ sym y.0, x.1 ∙ sym y.1, x.2 ∙ sym y.2)
 
@@ -34,7 +34,7 @@ module _ (before : Scripted) (story other : List Done) (end how : PlayEnd) (afte
 
 -- ---- behind one line
 
-module _ (one two : Done) (same : one ≡ two) (story other : List Done) (end how : PlayEnd) (after later : Scripted) where
+module _ (one two : Done) (same : one ≡ two) (story other : List Done) (end how : PlayEnd) (after later : ScriptedWorld) where
   behind : ArePlayedAlike story other end how after later → ArePlayedAlike (one ∷ story) (two ∷ other) end how after later
   behind (inl (alike, ends, worlds)) = inl (ap₂ (λ (done : Done) (rest : List Done). done ∷ rest) same alike, ends, worlds)
   behind (inr (inl (wants, (rest, is)))) = inr (inl (wants, (rest, ap₂ (λ (done : Done) (these : List Done). done ∷ these) (sym same) is)))
@@ -44,23 +44,23 @@ module _ (one two : Done) (same : one ≡ two) (story other : List Done) (end ho
 
 module _ (law : EventLaw) (cluster : ClusterModel) where
   -- a line is done in one way
-  done_once : (event : Event) (before : Scripted) → IsReached cluster before → (one other : Done) → one.event ≡ event → other.event ≡ event → DoesEvent before one → DoesEvent before other → (one ≡ other) × IsReached cluster one.after
+  done_once : (event : Event) (before : ScriptedWorld) → IsReached cluster before → (one other : Done) → one.event ≡ event → other.event ≡ event → DoesEvent before one → DoesEvent before other → (one ≡ other) × IsReached cluster one.after
   done_once event before reached one other first second x y =
       let same : AreOne cluster one.steps other.steps one.after other.after =
       unfolds_once law cluster before one.steps other.steps one.after other.after reached event
       (subst (λ (line : Event). Unfolds line before one.steps one.after) first x.unfolds) x.steps (subst (λ (line : Event). Unfolds line before other.steps other.after) second y.unfolds) y.steps in
       let tells : Tells event before one.steps one.after other.told =
-      subst₂ (λ (steps : List Step) (after : Scripted). Tells event before steps after other.told) (sym same.0) (sym same.1)
+      subst₂ (λ (steps : List Step) (after : ScriptedWorld). Tells event before steps after other.told) (sym same.0) (sym same.1)
       (subst (λ (line : Event). Tells line before other.steps other.after other.told) second y.tells) in
       let told = told_once cluster event before one.steps one.after one.told other.told (run-sound cluster reached.events before.world reached.run) x.steps
       (subst (λ (line : Event). Tells line before one.steps one.after one.told) first x.tells) tells in
       let lines = first ∙ sym second in
       ((λ i. record { event = lines i; steps = same.0 i; told = told i; after = same.1 i }), same.2)
 
-  module _ (number : ℕ) (Rest : Scripted → List Done → PlayEnd → Scripted → Type 0)
-      (rest : (between : Scripted) → IsReached cluster between → (story other : List Done) (end how : PlayEnd) (after later : Scripted) → Rest between story end after → Rest between other how later
-      → ArePlayedAlike story other end how after later) (before : Scripted) (reached : IsReached cluster before) where
-    event_once : (event : Event) (story other : List Done) (end how : PlayEnd) (after later : Scripted) → DoesOrSpends event number Rest before story end after → DoesOrSpends event number Rest before other how later
+  module _ (number : ℕ) (Rest : ScriptedWorld → List Done → PlayEnd → ScriptedWorld → Type 0)
+      (rest : (between : ScriptedWorld) → IsReached cluster between → (story other : List Done) (end how : PlayEnd) (after later : ScriptedWorld) → Rest between story end after → Rest between other how later
+      → ArePlayedAlike story other end how after later) (before : ScriptedWorld) (reached : IsReached cluster before) where
+    event_once : (event : Event) (story other : List Done) (end how : PlayEnd) (after later : ScriptedWorld) → DoesOrSpends event number Rest before story end after → DoesOrSpends event number Rest before other how later
         → ArePlayedAlike story other end how after later
     event_once event [] [] end how after later x y = inl (refl, x.1 ∙ sym y.1, x.2 ∙ sym y.2)
     event_once event [] (two ∷ other) end how after later x y = absurd (y.0 x.0)
@@ -70,18 +70,18 @@ module _ (law : EventLaw) (cluster : ClusterModel) where
         behind one two same.0 story other end how after later
         (rest one.after same.1 story other end how after later x.3 (subst (λ (done : Done). Rest done.after other how later) (sym same.0) y.3))
 
-    fault_once : (fault : Option LineFault) (event : Event) (story other : List Done) (end how : PlayEnd) (after later : Scripted) → PlaysEvent fault event number Rest before story end after
+    fault_once : (fault : Option LineFault) (event : Event) (story other : List Done) (end how : PlayEnd) (after later : ScriptedWorld) → PlaysEvent fault event number Rest before story end after
         → PlaysEvent fault event number Rest before other how later → ArePlayedAlike story other end how after later
     fault_once (Some fault) event story other end how after later x y = stop_alike before story other end how after later (ended.Line number fault) x y
     fault_once None event story other end how after later x y = event_once event story other end how after later x y
 
-    line_once : (told : Result (Option Event) LineFault) (story other : List Done) (end how : PlayEnd) (after later : Scripted) → PlaysLine told number Rest before story end after
+    line_once : (told : Result (Option Event) LineFault) (story other : List Done) (end how : PlayEnd) (after later : ScriptedWorld) → PlaysLine told number Rest before story end after
         → PlaysLine told number Rest before other how later → ArePlayedAlike story other end how after later
     line_once (Err fault) story other end how after later x y = stop_alike before story other end how after later (ended.Line number fault) x y
     line_once (Ok None) story other end how after later x y = rest before reached story other end how after later x y
     line_once (Ok (Some event)) story other end how after later x y = fault_once (event_fault before event) event story other end how after later x y
 
-  plays_once : (lines : List (List ℕ)) (number : ℕ) (before : Scripted) → IsReached cluster before → (story other : List Done) (end how : PlayEnd) (after later : Scripted) → Plays before number lines story end after
+  plays_once : (lines : List (List ℕ)) (number : ℕ) (before : ScriptedWorld) → IsReached cluster before → (story other : List Done) (end how : PlayEnd) (after later : ScriptedWorld) → Plays before number lines story end after
       → Plays before number lines other how later → ArePlayedAlike story other end how after later
   plays_once [] number before reached story other end how after later (inl wants) y = first_wants before story other end how after later wants
   plays_once [] number before reached story other end how after later (inr done) (inl wants) = second_wants before story other end how after later wants
@@ -93,7 +93,7 @@ module _ (law : EventLaw) (cluster : ClusterModel) where
       (λ between next these those one two first second. plays_once lines (number + 1) between next these those one two first second)
       before reached (event_of line) story other end how after later goes also
 
-  pub one_story : (lines : List (List ℕ)) (story other : List Done) (end how : PlayEnd) (after later : Scripted) → KeepsRules cluster → Plays (empty_script cluster) 1 lines story end after
+  pub one_story : (lines : List (List ℕ)) (story other : List Done) (end how : PlayEnd) (after later : ScriptedWorld) → KeepsRules cluster → Plays (empty_script cluster) 1 lines story end after
       → Plays (empty_script cluster) 1 lines other how later → ArePlayedAlike story other end how after later
   one_story lines story other end how after later rules x y = plays_once lines 1 (empty_script cluster) (empty_reached cluster rules) story other end how after later x y
 

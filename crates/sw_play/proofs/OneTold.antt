@@ -14,20 +14,20 @@ use Rattle.sw_archive.proofs.Archives.{one_archive}
 use Rattle.sw_ring.specs.Cluster.{ClusterModel, place_of_name}
 use Rattle.sw_message.specs.Step.{Folders}
 use Rattle.sw_message.proofs.Directories.{one_listing}
-use Rattle.sw_scene.specs.Disks.{Sure}
+use Rattle.sw_law_scene.specs.Disks.{Sure}
 use Rattle.sw_core.specs.Sound.{IsSoundWorld}
 use Rattle.sw_core.specs.World.{World, numbered}
 use Rattle.sw_core.proofs.Happening.{leads-sound}
 use Rattle.sw_script.specs.declared.event.Event as script
 use Rattle.sw_script.specs.declared.event.Event.TheVariants as event
-use Rattle.sw_told.specs.declared.end.EndLine.{EndLine}
-use Rattle.sw_told.specs.declared.show.ShowLine.{ShowLine}
-use Rattle.sw_told.specs.declared.show.ShowLine.TheVariants.{Buried, Stored}
-use Rattle.sw_told.specs.declared.told.Told.{Told}
-use Rattle.sw_world.specs.Scripted.{AreSteps, Scripted, Step}
-use Rattle.sw_world.specs.Show.{IsShown, IsShownEntry, or_empty}
-use Rattle.sw_world.specs.Unfolding.{Ended, Tells, TellsEnd, TellsEnds, TellsShown, ended_from}
-use Rattle.sw_world.proofs.Ended.{ended_over}
+use Rattle.sw_sim_exchange.specs.declared.lines.EndLine.{EndLine}
+use Rattle.sw_sim_world.specs.declared.told.ShowLine.{ShowLine}
+use Rattle.sw_sim_world.specs.declared.told.ShowLine.TheVariants.{Buried, Stored}
+use Rattle.sw_sim_world.specs.declared.told.Told.{Told}
+use Rattle.sw_sim_world.specs.ScriptedWorld.{AreSteps, ScriptedWorld, Step}
+use Rattle.sw_sim_world.specs.Show.{IsShown, IsShownEntry, or_empty}
+use Rattle.sw_sim_world.specs.Unfolding.{Ended, Tells, TellsEnd, TellsEnds, TellsShown, ended_from}
+use Rattle.sw_sim_world.proofs.Ended.{ended_over}
 use Rattle.sw_play.proofs.OneEnds.{one_end}
 
 -- beside each item stands one
@@ -61,7 +61,7 @@ module _ (device : ℕ) (files : List File) where
 same_folders : (one other : Folders) → Sure one ≡ Sure other → one ≡ other
 same_folders one other same = cc
 
-shows_once : (line : script.Event) (before : Scripted) (one other : List ShowLine) → TellsShown line before one → TellsShown line before other → one ≡ other
+shows_once : (line : script.Event) (before : ScriptedWorld) (one other : List ShowLine) → TellsShown line before one → TellsShown line before other → one ≡ other
 shows_once (event.Show device name) before one other (folders, is, shown) (others, also, shows) =
     let folder = folder_of (place_of_name before.world.scene.cluster name) in
     shown_once device (folders folder) one other shown (subst (λ (it : Folders). IsShown device (it folder) other) (sym (same_folders folders others (sym is ∙ also))) shows)
@@ -76,7 +76,7 @@ module _ (cluster : ClusterModel) where
       let how = one_end ended.operation.begun ended.operation.past one.end other.end (sound.operations ended.number ended.operation there).valid x.1 y.1 in
       λ i. record { operation = number i; end = how i }
 
-  ends_once : (steps : List Step) (before after : Scripted) (one other : List EndLine) → IsSoundWorld cluster before.world → AreSteps before steps after → TellsEnds before steps one → TellsEnds before steps other → one ≡ other
+  ends_once : (steps : List Step) (before after : ScriptedWorld) (one other : List EndLine) → IsSoundWorld cluster before.world → AreSteps before steps after → TellsEnds before steps one → TellsEnds before steps other → one ≡ other
   ends_once [] before after one other sound are x y = x ∙ sym y
   ends_once (step ∷ steps) before after one other sound are (mine, others, whole, zips, tells) (its, later, all, also, rest) =
       let next = leads-sound cluster before.world (step.event ∷ []) step.after.world sound (step.after.world, are.0.happens, refl) in
@@ -86,7 +86,7 @@ module _ (cluster : ClusterModel) where
 
   -- ---- all that is told
 
-  pub told_once : (line : script.Event) (before : Scripted) (steps : List Step) (after : Scripted) (one other : Told) → IsSoundWorld cluster before.world → AreSteps before steps after → Tells line before steps after one
+  pub told_once : (line : script.Event) (before : ScriptedWorld) (steps : List Step) (after : ScriptedWorld) (one other : Told) → IsSoundWorld cluster before.world → AreSteps before steps after → Tells line before steps after one
       → Tells line before steps after other → one ≡ other
   told_once line before steps after one other sound are x y =
       let sent = x.sent ∙ sym y.sent in

@@ -3,10 +3,10 @@ use Rattle.std.proofs.Common.{◌≡◌, ◌⊎◌, inl, inr, ⊎_elim, ℕ, ◌
 use Rattle.std.proofs.lemmas.Bool.{cases_Bool, cond-false, cond-true, eq-eqb}
 use Rattle.std.proofs.lemmas.Option.{none-some}
 use Rattle.sw_diskfile.proofs.Lists.{Contains-cases, Contains-first, Contains-later, Contains-none, kept}
-use Rattle.sw_message.specs.Transcript.{Gave, Step, Told, given, is_not, open_at, opens, told, told_of}
+use Rattle.sw_message.specs.Transcript.{Closed, Gave, Step, after_answer, closed_by, given, is_not, open_at, opens}
 use Rattle.sw_message.specs.declared.reply.Reply.{Reply}
 use Rattle.sw_message.specs.declared.sent.Sent.{Sent}
-use Rattle.sw_core.specs.Operating.{Begun}
+use Rattle.sw_operation.specs.Operating.{Begun}
 use Rattle.sw_core.specs.World.{HandsOut}
 
 -- a message has a ticket
@@ -37,32 +37,32 @@ open-given (Gave first ∷ past) sent has = ⊎_elim
     (λ same. subst (Contains (first ∷ given past)) same (Contains-first first (given past)))
     (λ later. Contains-later first (given past) sent (open-given past sent later))
     (Contains-cases first (opens past) sent has)
-open-given (Told first answer ∷ past) sent has = open-given past sent (kept (is_not first.ticket) (opens past) sent has).0
+open-given (Closed first answer ∷ past) sent has = open-given past sent (kept (is_not first.ticket) (opens past) sent has).0
 
 -- ---- an answer
 
 -- what was told once an answer came was told before, or is that answer to the open message of its ticket
-pub told-either : (past : List Step) (ticket : ℕ) (answer : Option Reply) (sent : Sent) (other : Option Reply) → Contains (told past ticket answer) (Told sent other)
-    → Contains past (Told sent other) ⊎ ((open_at ticket past ≡ Some sent) × (answer ≡ other))
+pub told-either : (past : List Step) (ticket : ℕ) (answer : Option Reply) (sent : Sent) (other : Option Reply) → Contains (after_answer past ticket answer) (Closed sent other)
+    → Contains past (Closed sent other) ⊎ ((open_at ticket past ≡ Some sent) × (answer ≡ other))
 told-either past ticket answer sent other = by_open (open_at ticket past) refl
   where
-    by_open : (opened : Option Sent) → open_at ticket past ≡ opened → Contains (told_of past answer opened) (Told sent other) → Contains past (Told sent other) ⊎ ((open_at ticket past ≡ Some sent) × (answer ≡ other))
+    by_open : (opened : Option Sent) → open_at ticket past ≡ opened → Contains (closed_by past answer opened) (Closed sent other) → Contains past (Closed sent other) ⊎ ((open_at ticket past ≡ Some sent) × (answer ≡ other))
     by_open None none has = inl has
     by_open (Some one) is has = ⊎_elim
         (λ same. let this : one ≡ sent = cc in inr (subst (λ (it : Sent). open_at ticket past ≡ Some it) this is, cc))
         (λ old. inl old)
-        (Contains-cases (Told one answer) past (Told sent other) has)
+        (Contains-cases (Closed one answer) past (Closed sent other) has)
 
 -- ---- messages that are handed out
 
 module _ (begun : Begun) where
   -- what was told as they are is what was told before
-  pub handed-told : (sents : List Sent) (past later : List Step) → HandsOut begun sents past later → (sent : Sent) (answer : Option Reply) → Contains later (Told sent answer) → Contains past (Told sent answer)
-  handed-told [] past later same sent answer has = subst (λ (steps : List Step). Contains steps (Told sent answer)) same has
+  pub handed-told : (sents : List Sent) (past later : List Step) → HandsOut begun sents past later → (sent : Sent) (answer : Option Reply) → Contains later (Closed sent answer) → Contains past (Closed sent answer)
+  handed-told [] past later same sent answer has = subst (λ (steps : List Step). Contains steps (Closed sent answer)) same has
   handed-told (first ∷ sents) past later (next, more) sent answer has = ⊎_elim
       (λ same. absurd (cc))
       (λ old. old)
-      (Contains-cases (Gave first) past (Told sent answer) (handed-told sents (Gave first ∷ past) later more sent answer has))
+      (Contains-cases (Gave first) past (Closed sent answer) (handed-told sents (Gave first ∷ past) later more sent answer has))
 
   -- and what was handed out then was so before, or is one of them
   pub handed-given : (sents : List Sent) (past later : List Step) → HandsOut begun sents past later → (sent : Sent) → Contains (given later) sent → Contains (given past) sent ⊎ Contains sents sent

@@ -5,9 +5,9 @@ use Rattle.sw_message.specs.Transcript.{Step}
 use Rattle.sw_core.specs.Event.{Proceeds, begins}
 use Rattle.sw_core.specs.World.{Operating, World, numbered, with_numbered}
 use Rattle.sw_core.proofs.Numbered.{numbered-within}
-use Rattle.sw_events.specs.WorldMove.{Answered, Began, GaveUp, Moved, WorldMove}
-use Rattle.sw_events.proofs.Happened.{happens-moves}
-use Rattle.sw_world.specs.Scripted.{AreSteps, Scripted, Step as AStep}
+use Rattle.sw_core.specs.WorldMove.{Answered, Began, GaveUp, Moved, WorldMove}
+use Rattle.sw_core.proofs.Happened.{happens-moves}
+use Rattle.sw_sim_world.specs.ScriptedWorld.{AreSteps, ScriptedWorld, Step as AStep}
 
 -- ---- lists
 
@@ -56,6 +56,6 @@ module _ (number : ℕ) (operation : Operating) (over : operation.is_over ≡ tr
 
   -- ---- steps
 
-  pub over_stays : (before : Scripted) (steps : List AStep) (after : Scripted) → AreSteps before steps after → IsThere before.world → IsThere after.world
-  over_stays before [] after same there = subst (λ (one : Scripted). IsThere one.world) (sym same) there
+  pub over_stays : (before : ScriptedWorld) (steps : List AStep) (after : ScriptedWorld) → AreSteps before steps after → IsThere before.world → IsThere after.world
+  over_stays before [] after same there = subst (λ (one : ScriptedWorld). IsThere one.world) (sym same) there
   over_stays before (step ∷ steps) after (first, rest) there = over_stays step.after steps after rest (moves before.world there step.after.world (happens-moves before.world step.after.world step.event first.happens))

@@ -5,52 +5,52 @@ use Rattle.std.proofs.lemmas.Bool.{true≢false}
 use Rattle.std.proofs.lemmas.List.Elements.{All-cons, All-nil}
 use Rattle.sw_diskfile.proofs.Lists.{Contains-first, Contains-later, Contains-none}
 use Rattle.sw_ring.specs.Cluster.{ClusterModel}
-use Rattle.sw_message.specs.Transcript.{Told, told}
+use Rattle.sw_message.specs.Transcript.{Closed, after_answer}
 use Rattle.sw_message.specs.declared.sent.Sent.{Sent}
-use Rattle.sw_scene.specs.Scene.{Answer, Mail, Request}
+use Rattle.sw_law_scene.specs.Scene.{Answer, Message, Request}
 use Rattle.sw_core.specs.Event.{Deliver, Event, GiveUp, Happens}
-use Rattle.sw_core.specs.Operating.{Begun, IsNext}
+use Rattle.sw_operation.specs.Operating.{Begun, IsNext}
 use Rattle.sw_core.specs.Sound.{IsSoundWorld}
 use Rattle.sw_core.specs.World.{World}
 use Rattle.sw_core.proofs.Happening.{leads-sound}
 use Rattle.sw_core.proofs.Machines.{numbers}
 use Rattle.sw_core.proofs.Transcripts.{told-cases}
-use Rattle.sw_alone.specs.Alone.{Delivers, GivesUp, IsOf, IsOwnEvent, LeadsAlone}
-use Rattle.sw_complete.specs.Complete.{IsDelivery}
-use Rattle.sw_world.specs.Scripted.{AreSteps, IsLeast, IsOver, IsOwn, IsStep, Scripted, Step, delivered_by, events_in}
-use Rattle.sw_world.specs.Unfolding.{RunsOut}
-use Rattle.sw_world.proofs.Mails.{Adds, delivered-adds, given-adds}
-use Rattle.sw_play.proofs.Handled.{AreHandled, mail_kept}
+use Rattle.sw_law_alone.specs.Alone.{Delivers, GivesUp, IsOf, IsOwnEvent, LeadsAlone}
+use Rattle.sw_law_complete.specs.Complete.{IsDelivery}
+use Rattle.sw_sim_world.specs.ScriptedWorld.{AreSteps, IsLeast, IsOver, IsOwn, IsStep, ScriptedWorld, Step, delivered_by, events_in}
+use Rattle.sw_sim_world.specs.Unfolding.{RunsOut}
+use Rattle.sw_sim_world.proofs.Messages.{Adds, delivered-adds, given-adds}
+use Rattle.sw_play.proofs.Handled.{AreHandled, messages_kept}
 use Rattle.sw_play.proofs.OwnEvents.{delivers, gives_up}
 use Rattle.sw_play.proofs.Waits.{IsDown, IsOnWay, tickets_down}
 
 -- a message of an operation is its own
-own_of : (number : ℕ) (mail : Mail) → IsOwn number mail → IsOf number mail
+own_of : (number : ℕ) (posted : Message) → IsOwn number posted → IsOf number posted
 own_of number (Request at operation sent) own = own
 own_of number (Answer at operation sent reply) own = own
 
 -- the device of each request of an operation that was ever made is up
 abbrev pub AllUp : (number : ℕ) (up : ℕ → Bool) → World → Type 0
-AllUp number up world = (at : ℕ) (sent : Sent) → Contains world.scene.mail (Request at number sent) → up sent.device ≡ true
+AllUp number up world = (at : ℕ) (sent : Sent) → Contains world.scene.messages (Request at number sent) → up sent.device ≡ true
 
 module _ (cluster : ClusterModel) (number : ℕ) (begun : Begun) (up : ℕ → Bool) where
-  abbrev OnWay : Scripted → Type 0
+  abbrev OnWay : ScriptedWorld → Type 0
   OnWay = IsOnWay cluster number begun up
 
   abbrev AreDown : World → List ℕ → Type 0
   AreDown world tickets = (ticket : ℕ) → Contains tickets ticket → IsDown number up world ticket
 
   -- it led alone to where it is over, and messages were made, none lost
-  pub record HasRun (before : Scripted) (steps : List Step) (after : Scripted) : Type 0 where
+  pub record HasRun (before : ScriptedWorld) (steps : List Step) (after : ScriptedWorld) : Type 0 where
     pub leads : LeadsAlone number before.world (events_in steps) after.world
     pub on_way : IsOnWay cluster number begun up after
     pub over : IsOver number after
-    pub grows : (mail : Mail) → Contains before.world.scene.mail mail → Contains after.world.scene.mail mail
+    pub grows : (posted : Message) → Contains before.world.scene.messages posted → Contains after.world.scene.messages posted
     pub delivers : AllUp number up after.world → All IsDelivery (events_in steps)
 
   -- ---- one step
 
-  module _ (before : Scripted) (is : OnWay before) (step : Step) (is_step : IsStep before step) where
+  module _ (before : ScriptedWorld) (is : OnWay before) (step : Step) (is_step : IsStep before step) where
     sound_then : IsSoundWorld cluster step.after.world
     sound_then = leads-sound cluster before.world (step.event ∷ []) step.after.world is.sound (step.after.world, is_step.happens, refl)
 
@@ -58,7 +58,7 @@ module _ (cluster : ClusterModel) (number : ℕ) (begun : Begun) (up : ℕ → B
     record Goes : Type 0 where
       own : IsOwnEvent before.world number step.event
       on_way : OnWay step.after
-      grows : (mail : Mail) → Contains before.world.scene.mail mail → Contains step.after.world.scene.mail mail
+      grows : (posted : Message) → Contains before.world.scene.messages posted → Contains step.after.world.scene.messages posted
 
     -- a message of it that waits is delivered
     delivered : (message : ℕ) → IsLeast (IsOwn number) before message → step.event ≡ Deliver message → Goes
@@ -66,11 +66,11 @@ module _ (cluster : ClusterModel) (number : ℕ) (begun : Begun) (up : ℕ → B
         let waits = least.waits in
         let happens = subst (λ (event : Event). Happens event before.world step.after.world) event_is is_step.happens in
         let now_delivered : step.after.delivered ≡ message ∷ before.delivered = is_step.delivered ∙ ap (λ (event : Event). delivered_by event before.delivered) event_is in
-        let goes = delivers cluster number begun up before.world before.delivered is.sound is.answering is.handled message waits.mail waits.there waits.such step.after.world happens in
+        let goes = delivers cluster number begun up before.world before.delivered is.sound is.answering is.handled message waits.posted waits.there waits.such step.after.world happens in
         record {
-          own = subst (IsOwnEvent before.world number) (sym event_is) (Delivers message waits.mail waits.there (own_of number waits.mail waits.such));
+          own = subst (IsOwnEvent before.world number) (sym event_is) (Delivers message waits.posted waits.there (own_of number waits.posted waits.such));
           on_way = record { sound = sound_then; answering = goes.0; handled = subst (AreHandled number up step.after.world) (sym now_delivered) goes.1 };
-          grows = mail_kept number before.world step.after.world (subst (λ (n : ℕ). Adds n before.world step.after.world) waits.such (delivered-adds before.world step.after.world message waits.mail waits.there happens));
+          grows = messages_kept number before.world step.after.world (subst (λ (n : ℕ). Adds n before.world step.after.world) waits.such (delivered-adds before.world step.after.world message waits.posted waits.there happens));
         }
 
     -- one to a device that is down is given up
@@ -86,28 +86,28 @@ module _ (cluster : ClusterModel) (number : ℕ) (begun : Begun) (up : ℕ → B
         (λ old. is.answering.goes.missed sent old)
         (λ new. subst (λ (one : Sent). up one.device ≡ false) new.0 down.down)
         (told-cases (IsNext operation.begun) (numbers operation.begun) operation.past stands.run down.sent None (stands.requests down.at down.sent down.made).1 sent None
-        (subst (λ (n : ℕ). Contains (told operation.past n None) (Told sent None)) (sym down.ticket_is) has))) step.after.world happens in
+        (subst (λ (n : ℕ). Contains (after_answer operation.past n None) (Closed sent None)) (sym down.ticket_is) has))) step.after.world happens in
         record {
           own = subst (IsOwnEvent before.world number) (sym event_is) (GivesUp ticket);
           on_way = record { sound = sound_then; answering = goes.0; handled = subst (AreHandled number up step.after.world) (sym same_delivered) goes.1 };
-          grows = mail_kept number before.world step.after.world (given-adds before.world step.after.world number ticket happens);
+          grows = messages_kept number before.world step.after.world (given-adds before.world step.after.world number ticket happens);
         }
 
   -- the tickets after the first are those of messages to devices that are down, and stay so
-  down_later : (before after : World) → ((mail : Mail) → Contains before.scene.mail mail → Contains after.scene.mail mail) → (ticket : ℕ) (tickets : List ℕ) → AreDown before (ticket ∷ tickets) → AreDown after tickets
+  down_later : (before after : World) → ((posted : Message) → Contains before.scene.messages posted → Contains after.scene.messages posted) → (ticket : ℕ) (tickets : List ℕ) → AreDown before (ticket ∷ tickets) → AreDown after tickets
   down_later before after grows ticket tickets down other has =
       let is = down other (Contains-later ticket tickets other has) in record { sent = is.sent; ticket_is = is.ticket_is; down = is.down; at = is.at; made = grows (Request is.at number is.sent) is.made }
 
   -- ---- a step, and those after it
 
-  module _ (before : Scripted) (is : OnWay before) (step : Step) (is_step : IsStep before step) (steps : List Step) (after : Scripted) where
+  module _ (before : ScriptedWorld) (is : OnWay before) (step : Step) (is_step : IsStep before step) (steps : List Step) (after : ScriptedWorld) where
     -- where its event is a delivery, or all are not up
     and_then : Goes before is step is_step → HasRun step.after steps after → (AllUp number up after.world → IsDelivery step.event) → HasRun before (step ∷ steps) after
     and_then goes later delivery = record {
       leads = (goes.own, step.after.world, is_step.happens, later.leads);
       on_way = later.on_way;
       over = later.over;
-      grows = λ mail has. later.grows mail (goes.grows mail has);
+      grows = λ posted has. later.grows posted (goes.grows posted has);
       delivers = λ all. All-cons IsDelivery step.event (events_in steps) (delivery all) (later.delivers all);
     }
 
@@ -128,12 +128,12 @@ module _ (cluster : ClusterModel) (number : ℕ) (begun : Begun) (up : ℕ → B
 
   -- ---- all of them
 
-  pub runs_out : (steps : List Step) (before after : Scripted) (tickets : List ℕ) → OnWay before → AreDown before.world tickets → AreSteps before steps after → RunsOut number before tickets steps → HasRun before steps after
+  pub runs_out : (steps : List Step) (before after : ScriptedWorld) (tickets : List ℕ) → OnWay before → AreDown before.world tickets → AreSteps before steps after → RunsOut number before tickets steps → HasRun before steps after
   runs_out [] before after [] is down same (over, none) = subst (HasRun before []) (sym same) (record {
     leads = refl;
     on_way = is;
     over = over;
-    grows = λ mail has. has;
+    grows = λ posted has. has;
     delivers = λ all. All-nil IsDelivery;
   })
   runs_out [] before after (ticket ∷ tickets) is down same out = absurd out

@@ -11,13 +11,13 @@ use Rattle.sw_core.specs.Event.{IsRun}
 use Rattle.sw_script.specs.Line.{event_of}
 use Rattle.sw_script.specs.declared.event.Event.{Event}
 use Rattle.sw_script.specs.declared.fault.LineFault.{LineFault}
-use Rattle.sw_told.specs.Text.{told_text}
+use Rattle.sw_sim_text.specs.Text.{told_text}
 use Rattle.sw_play.specs.Lines.{DoesLine, DoesOrBlank, StopsLine}
 use Rattle.sw_play.specs.Play.{Played}
 use Rattle.sw_play.specs.Full.{after_lines}
-use Rattle.sw_world.specs.Scripted.{Scripted}
-use Rattle.sw_world.specs.Standing.{StandsFor, WorldModel}
-use Rattle.sw_world.specs.Doing.{Done}
+use Rattle.sw_sim_world.specs.ScriptedWorld.{ScriptedWorld}
+use Rattle.sw_sim_world.specs.Standing.{StandsFor, WorldModel}
+use Rattle.sw_sim_world.specs.Doing.{Done}
 use Rattle.sw_play.specs.Story.{Plays, PlaysEvent, PlaysLine, TellsOnePut, story_text}
 use Rattle.sw_play.specs.declared.playing.LineStop.TheVariants as stop
 use Rattle.sw_play.specs.declared.playing.PlayEnd.{PlayEnd}
@@ -29,15 +29,15 @@ use Rattle.sw_play.proofs.Stories.{plays_does}
 use Rattle.sw_play.proofs.StoryLines.{AllStoodFor, StoodFor, after_more, line_cases, no_line}
 
 -- some basic events led to a world
-abbrev IsOfRun : Scripted → Type 0
+abbrev IsOfRun : ScriptedWorld → Type 0
 IsOfRun before = (events : List core.Event) × IsRun before.world.scene.cluster events before.world
 
 -- these lines were done, and those are left, the first of which has the next number
-pub record Progress (before : Scripted) (left : WorldModel) (old new : List ℕ) (number : ℕ) (lines all : List (List ℕ)) : Type 0 where
+pub record Progress (before : ScriptedWorld) (left : WorldModel) (old new : List ℕ) (number : ℕ) (lines all : List (List ℕ)) : Type 0 where
   pub story : List Done
-  pub after : Scripted
+  pub after : ScriptedWorld
   -- however it goes on from there, the whole goes on
-  pub plays : (later : List Done) (end : PlayEnd) (last : Scripted) → Plays after (number + 1) lines later end last → Plays before 1 all (story ++ later) end last
+  pub plays : (later : List Done) (end : PlayEnd) (last : ScriptedWorld) → Plays after (number + 1) lines later end last → Plays before 1 all (story ++ later) end last
   pub text : new ≡ old ++ story_text story
   pub stands : StandsFor left after
   pub found : (done : Done) → Contains story done → TellsOnePut done
@@ -48,7 +48,7 @@ pub record Progress (before : Scripted) (left : WorldModel) (old new : List ℕ)
   pub stood : AllStoodFor before story
 
 -- nothing was done
-pub none_done : (before : Scripted) (left : WorldModel) (text : List ℕ) (all : List (List ℕ)) → StandsFor left before → Progress before left text text 0 all all
+pub none_done : (before : ScriptedWorld) (left : WorldModel) (text : List ℕ) (all : List (List ℕ)) → StandsFor left before → Progress before left text text 0 all all
 none_done before left text all stands = record {
   story = [];
   after = before;
@@ -68,12 +68,12 @@ text_more story done =
     ap concat (map-append (λ (one : Done). told_text one.told) story (done ∷ [])) ∙ concat-append (map (λ (one : Done). told_text one.told) story) (told_text done.told ∷ [])
     ∙ ap (λ text. story_text story ++ text) (append-nil (told_text done.told))
 
-module _ (before : Scripted) (middle left : WorldModel) (old between new : List ℕ) (number : ℕ) (line : List ℕ) (lines all : List (List ℕ)) (progress : Progress before middle old between number (line ∷ lines) all) where
+module _ (before : ScriptedWorld) (middle left : WorldModel) (old between new : List ℕ) (number : ℕ) (line : List ℕ) (lines all : List (List ℕ)) (progress : Progress before middle old between number (line ∷ lines) all) where
   -- how the rest goes on
-  abbrev Rest : Scripted → List Done → PlayEnd → Scripted → Type 0
+  abbrev Rest : ScriptedWorld → List Done → PlayEnd → ScriptedWorld → Type 0
   Rest at later how last = Plays at (number + 1 + 1) lines later how last
 
-  abbrev GoesOn : Result (Option Event) LineFault → List Done → PlayEnd → Scripted → Type 0
+  abbrev GoesOn : Result (Option Event) LineFault → List Done → PlayEnd → ScriptedWorld → Type 0
   GoesOn told later end last = PlaysLine told (number + 1) Rest progress.after later end last
 
   event_done : (event : Option Event) → event_of line ≡ Ok event → DoesOrBlank event progress.after left between new → Progress before left old new (number + 1) lines all
@@ -111,7 +111,7 @@ module _ (before : Scripted) (middle left : WorldModel) (old between new : List 
             (λ earlier. progress.stood at one earlier)
             (λ this.
             subst (StoodFor at) this.1
-            (subst (λ (first : Scripted). StoodFor first done) (progress.after_is ∙ sym this.0)
+            (subst (λ (first : ScriptedWorld). StoodFor first done) (progress.after_is ∙ sym this.0)
             (record { earlier = middle; stood = progress.stands; later = left; stands = tells.does.stands; does = tells.does.does })))
             (line_cases before progress.story done at one has);
       }
@@ -121,12 +121,12 @@ module _ (before : Scripted) (middle left : WorldModel) (old between new : List 
 
 -- ---- how it ends
 
-none_plays : (at : Scripted) (number : ℕ) (lines : List (List ℕ)) → Plays at number lines [] ended.NoMemory at
+none_plays : (at : ScriptedWorld) (number : ℕ) (lines : List (List ℕ)) → Plays at number lines [] ended.NoMemory at
 none_plays at number [] = inl (refl, refl, refl)
 none_plays at number (line ∷ lines) = inl (refl, refl, refl)
 
-module _ (at : Scripted) (number : ℕ) (line : List ℕ) (lines : List (List ℕ)) (old new : WorldModel) where
-  abbrev After : Scripted → List Done → PlayEnd → Scripted → Type 0
+module _ (at : ScriptedWorld) (number : ℕ) (line : List ℕ) (lines : List (List ℕ)) (old new : WorldModel) where
+  abbrev After : ScriptedWorld → List Done → PlayEnd → ScriptedWorld → Type 0
   After between later how last = Plays between (number + 1) lines later how last
 
   fault_plays : (fault : LineFault) → StopsLine at line (stop.Fault fault) old new → Plays at number (line ∷ lines) [] (ended.Line number fault) at × (new ≡ old)
@@ -148,7 +148,7 @@ module _ (at : Scripted) (number : ℕ) (line : List ℕ) (lines : List (List �
     spends.2,
   )
 
-module _ (before : Scripted) (middle : WorldModel) (old new : List ℕ) (number : ℕ) (lines all : List (List ℕ)) (progress : Progress before middle old new number lines all) where
+module _ (before : ScriptedWorld) (middle : WorldModel) (old new : List ℕ) (number : ℕ) (lines all : List (List ℕ)) (progress : Progress before middle old new number lines all) where
   played : (end : PlayEnd) (left : WorldModel) → Plays progress.after (number + 1) lines [] end progress.after → (end ≢ ended.NoMemory → left ≡ middle) → (end ≡ ended.NoMemory → left.is_wanting ≡ true)
       → Played before all end left old new
   played end left plays kept wants =

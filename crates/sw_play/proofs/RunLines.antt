@@ -6,28 +6,28 @@ use Rattle.std.proofs.lemmas.Option.{same_Some}
 use Rattle.sw_diskfile.proofs.Lists.{Contains-none}
 use Rattle.sw_hashdir.specs.Listing.{ListingModel}
 use Rattle.sw_ring.specs.Cluster.{ClusterModel}
-use Rattle.sw_message.specs.Transcript.{Told}
+use Rattle.sw_message.specs.Transcript.{Closed}
 use Rattle.sw_message.specs.declared.reply.Reply.{Reply}
 use Rattle.sw_message.specs.declared.reply.Reply.TheVariants as reply
 use Rattle.sw_get.specs.Get as gets
-use Rattle.sw_scene.specs.Scene.{is_up}
+use Rattle.sw_law_scene.specs.Scene.{is_up}
 use Rattle.sw_core.specs.Event.{Event, Happens, Start}
-use Rattle.sw_core.specs.Operating.{Begun}
+use Rattle.sw_operation.specs.Operating.{Begun}
 use Rattle.sw_core.specs.Sound.{IsSoundWorld}
 use Rattle.sw_core.specs.World.{Operating, World, numbered}
-use Rattle.sw_steady.specs.Steady.{MissesAlike}
-use Rattle.sw_alone.specs.Alone.{LeadsAlone}
-use Rattle.sw_complete.specs.Complete.{IsDelivery}
+use Rattle.sw_law_steady.specs.Steady.{MissesAlike}
+use Rattle.sw_law_alone.specs.Alone.{LeadsAlone}
+use Rattle.sw_law_complete.specs.Complete.{IsDelivery}
 use Rattle.sw_script.specs.declared.event.Job.{Job}
-use Rattle.sw_world.specs.Scripted.{AreSteps, IsOver, Scripted, Step, events_in}
-use Rattle.sw_world.specs.Unfolding.{StartsAndRunsOut, job_of}
+use Rattle.sw_sim_world.specs.ScriptedWorld.{AreSteps, IsOver, ScriptedWorld, Step, events_in}
+use Rattle.sw_sim_world.specs.Unfolding.{StartsAndRunsOut, job_of}
 use Rattle.sw_play.proofs.Answering.{IsHeld}
 use Rattle.sw_play.proofs.OwnRuns.{AllUp, runs_out}
 use Rattle.sw_play.proofs.OwnStarts.{begun_by, next_number, starts_on_way}
 use Rattle.sw_play.proofs.Waits.{IsOnWay}
 
 -- The job starts, and nothing steps beside its operation until that is over. None of its messages is given up where all that it asks are up.
-pub record RanAlone (cluster : ClusterModel) (before : Scripted) (of : Job) (after : Scripted) : Type 0 where
+pub record RanAlone (cluster : ClusterModel) (before : ScriptedWorld) (of : Job) (after : ScriptedWorld) : Type 0 where
   pub started : World
   pub starts : Happens (Start (job_of of)) before.world started
   pub own : List Event
@@ -36,7 +36,7 @@ pub record RanAlone (cluster : ClusterModel) (before : Scripted) (of : Job) (aft
   pub on_way : IsOnWay cluster (next_number before.world) (begun_by before.world (job_of of)) (is_up before.world.scene) after
   pub over : IsOver (next_number before.world) after
 
-pub ran_alone : (cluster : ClusterModel) (before : Scripted) → IsSoundWorld cluster before.world → ((message : ℕ) → Contains before.delivered message → message ≤ length before.world.scene.mail) → (of : Job) (steps : List Step) (after : Scripted)
+pub ran_alone : (cluster : ClusterModel) (before : ScriptedWorld) → IsSoundWorld cluster before.world → ((message : ℕ) → Contains before.delivered message → message ≤ length before.world.scene.messages) → (of : Job) (steps : List Step) (after : ScriptedWorld)
     → AreSteps before steps after → StartsAndRunsOut of before steps → RanAlone cluster before of after
 ran_alone cluster before sound within of [] after same out = absurd out
 ran_alone cluster before sound within of (first ∷ steps) after (is_step, are) (event_is, out) =
@@ -72,7 +72,7 @@ held reply.Kept none = absurd none
 held reply.Removed none = absurd none
 held other none = absurd none
 
-module _ (cluster : ClusterModel) (number : ℕ) (begun : Begun) (up : ℕ → Bool) (after : Scripted) (is : IsOnWay cluster number begun up after) (operation : Operating) (there : numbered after.world.operations number ≡ Some operation) where
+module _ (cluster : ClusterModel) (number : ℕ) (begun : Begun) (up : ℕ → Bool) (after : ScriptedWorld) (is : IsOnWay cluster number begun up after) (operation : Operating) (there : numbered after.world.operations number ≡ Some operation) where
   same_operation : is.answering.operation ≡ operation
   same_operation = same_Some is.answering.operation operation (sym is.answering.goes.there ∙ there)
 
@@ -89,9 +89,9 @@ module _ (cluster : ClusterModel) (number : ℕ) (begun : Begun) (up : ℕ → B
           let made = (is.sound.operations number operation there).told (gets.ask_message get ticket device) (reply.Held listing) here in
           (is.answering.goes.answers made.0 (gets.ask_message get ticket device) (reply.Held listing) made.2).0
 
-      by_answer : (answer : Option Reply) → Contains operation.past (Told (gets.ask_message get other device) answer) → (same : ListingModel) × (answer ≡ Some (reply.Held same))
+      by_answer : (answer : Option Reply) → Contains operation.past (Closed (gets.ask_message get other device) answer) → (same : ListingModel) × (answer ≡ Some (reply.Held same))
       by_answer None missed =
-          let is_down = is.answering.goes.missed (gets.ask_message get other device) (subst (λ (one : Operating). Contains one.past (Told (gets.ask_message get other device) None)) (sym same_operation) missed) in
+          let is_down = is.answering.goes.missed (gets.ask_message get other device) (subst (λ (one : Operating). Contains one.past (Closed (gets.ask_message get other device) None)) (sym same_operation) missed) in
           absurd (true≢false (sym is_up_now ∙ is_down))
       by_answer (Some given) told =
           let made = (is.sound.operations number operation there).told (gets.ask_message get other device) given told in

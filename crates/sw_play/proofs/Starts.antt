@@ -1,15 +1,15 @@
 -- An operation that a later event starts begins no earlier than the step of the world before.
 use Rattle.std.proofs.Common.{◌≡◌, ⊎_elim, ℕ, ◌+◌, ◌≤◌, ◌<◌, List, [], ◌∷◌, ◌++◌, length, Some, sym, ap, subst, ◌∙◌, arith}
 use Rattle.sw_message.specs.Transcript.{Step}
-use Rattle.sw_scene.specs.Scene.{Scene}
-use Rattle.sw_scene.proofs.Growth.{Follows, sends-grows}
+use Rattle.sw_law_scene.specs.Scene.{Scene}
+use Rattle.sw_law_scene.proofs.Growth.{Follows, sends-grows}
 use Rattle.sw_core.specs.Event.{Event, Lead, Proceeds, begins}
-use Rattle.sw_core.specs.Operating.{Begun}
+use Rattle.sw_operation.specs.Operating.{Begun}
 use Rattle.sw_core.specs.World.{Operating, World, numbered}
 use Rattle.sw_core.proofs.Numbered.{numbered-within, pushed-cases, pushed-last, replaced-cases}
-use Rattle.sw_events.specs.WorldMove.{Answered, Began, GaveUp, Moved, WorldMove}
-use Rattle.sw_events.proofs.Carried.{led}
-use Rattle.sw_scene.proofs.Moved.{moved-follows, noted-follows}
+use Rattle.sw_core.specs.WorldMove.{Answered, Began, GaveUp, Moved, WorldMove}
+use Rattle.sw_core.proofs.Carried.{led}
+use Rattle.sw_law_scene.proofs.Moved.{moved-follows, noted-follows}
 
 -- a step has come, and each operation of a number above a limit started at it or later
 record IsLater (limit step : ℕ) (world : World) : Type 0 where

@@ -9,13 +9,13 @@ use Rattle.sw_ring.specs.Ring.{is_among}
 use Rattle.sw_ring.proofs.Among.{Contains-from_among, not_among}
 use Rattle.sw_message.specs.Transcript.{opens}
 use Rattle.sw_message.specs.declared.sent.Sent.{Sent}
-use Rattle.sw_scene.specs.Scene.{Answer, Mail, Request}
-use Rattle.sw_core.specs.Operating.{Begun}
+use Rattle.sw_law_scene.specs.Scene.{Answer, Message, Request}
+use Rattle.sw_operation.specs.Operating.{Begun}
 use Rattle.sw_core.specs.Sound.{IsSoundWorld}
 use Rattle.sw_core.specs.World.{Operating, World, numbered}
-use Rattle.sw_world.specs.Scripted.{IsOwn, NoneWaits, Scripted, open_tickets, tickets_in}
-use Rattle.sw_world.specs.Standing.{IsClosed}
-use Rattle.sw_world.proofs.Places.{contained}
+use Rattle.sw_sim_world.specs.ScriptedWorld.{IsOwn, NoneWaits, ScriptedWorld, open_tickets, tickets_in}
+use Rattle.sw_sim_world.specs.Standing.{IsClosed}
+use Rattle.sw_sim_world.proofs.Slots.{contained}
 use Rattle.sw_play.proofs.Answering.{IsAnswering}
 use Rattle.sw_play.proofs.Handled.{AreHandled}
 use Rattle.sw_play.proofs.OpenMessages.{open-given, open-some}
@@ -35,31 +35,31 @@ module _ (number : ℕ) (up : ℕ → Bool) where
     pub ticket_is : sent.ticket ≡ ticket
     pub down : up sent.device ≡ false
     pub at : ℕ
-    pub made : Contains world.scene.mail (Request at number sent)
+    pub made : Contains world.scene.messages (Request at number sent)
 
 module _ (cluster : ClusterModel) (number : ℕ) (begun : Begun) (up : ℕ → Bool) where
   -- the world of a script on the way of the operation
-  pub record IsOnWay (scripted : Scripted) : Type 0 where
+  pub record IsOnWay (scripted : ScriptedWorld) : Type 0 where
     pub sound : IsSoundWorld cluster scripted.world
     pub answering : IsAnswering number begun up scripted.world
     pub handled : AreHandled number up scripted.world scripted.delivered
 
-  module _ (scripted : Scripted) (is : IsOnWay scripted) (none : NoneWaits (IsOwn number) scripted) where
+  module _ (scripted : ScriptedWorld) (is : IsOnWay scripted) (none : NoneWaits (IsOwn number) scripted) where
     -- each own message was delivered
-    was_delivered : (message : ℕ) (mail : Mail) → numbered scripted.world.scene.mail message ≡ Some mail → IsOwn number mail → Contains scripted.delivered message
-    was_delivered message mail there own = ⊎_elim
+    was_delivered : (message : ℕ) (posted : Message) → numbered scripted.world.scene.messages message ≡ Some posted → IsOwn number posted → Contains scripted.delivered message
+    was_delivered message posted there own = ⊎_elim
         (λ among. Contains-from_among scripted.delivered message among)
-        (λ other. absurd (none message (record { mail = mail; there = there; such = own; fresh = not_among scripted.delivered message other })))
+        (λ other. absurd (none message (record { posted = posted; there = there; such = own; fresh = not_among scripted.delivered message other })))
         (cases_Bool (is_among scripted.delivered message))
 
     module _ (running : is.answering.operation.is_over ≡ false) (sent : Sent) (opened : Contains (opens is.answering.operation.past) sent) where
       -- its device is not up, for it would have replied, and the ticket were closed
-      not_up : (at : ℕ) → Contains scripted.world.scene.mail (Request at number sent) → up sent.device ≡ true → ⊥
+      not_up : (at : ℕ) → Contains scripted.world.scene.messages (Request at number sent) → up sent.device ≡ true → ⊥
       not_up at made is_up_now =
-          let asked = contained scripted.world.scene.mail (Request at number sent) made in
+          let asked = contained scripted.world.scene.messages (Request at number sent) made in
           let reply = is.handled.replied (suc asked.0) at sent asked.1 (was_delivered (suc asked.0) (Request at number sent) asked.1 refl) is_up_now in
           let answer = Answer reply.0 number sent reply.1 in
-          let answered = contained scripted.world.scene.mail answer reply.2 in
+          let answered = contained scripted.world.scene.messages answer reply.2 in
           let closed = is.handled.closed (suc answered.0) reply.0 sent reply.1 answered.1 (was_delivered (suc answered.0) answer answered.1 refl) in
           open-some is.answering.operation.past sent opened (subst (λ (found : Option Operating). IsClosed found sent.ticket) is.answering.goes.there closed running)
 

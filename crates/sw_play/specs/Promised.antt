@@ -8,16 +8,16 @@ use Rattle.sw_get.specs.Get as gets
 use Rattle.sw_get.specs.declared.end.GetEnd.{GetEnd}
 use Rattle.sw_put.specs.Put as puts
 use Rattle.sw_put.specs.declared.end.PutEnd.TheVariants.{Created}
-use Rattle.sw_scene.specs.Scene.{StartedDelete, StartedPut}
-use Rattle.sw_core.specs.Operating as operations
-use Rattle.sw_core.specs.Operating.{IsGetOf}
+use Rattle.sw_law_scene.specs.Scene.{StartedDelete, StartedPut}
+use Rattle.sw_operation.specs.Operating as operations
+use Rattle.sw_operation.specs.Operating.{IsGetOf}
 use Rattle.sw_core.specs.World.{Operating, numbered}
-use Rattle.sw_rounds.specs.Ends.{IsNotOlder, IsOvertaken, Shows}
-use Rattle.sw_headline.specs.Headline.{AreOut}
-use Rattle.sw_told.specs.declared.end.EndLine.{EndLine}
-use Rattle.sw_told.specs.declared.end.OpEnd.{OpEnd}
-use Rattle.sw_told.specs.declared.end.OpEnd.TheVariants as end
-use Rattle.sw_world.specs.Doing.{Done}
+use Rattle.sw_law_rounds.specs.Ends.{IsNotOlder, IsOvertaken, Shows}
+use Rattle.sw_law_headline.specs.Headline.{AreOut}
+use Rattle.sw_sim_exchange.specs.declared.lines.EndLine.{EndLine}
+use Rattle.sw_operation.specs.declared.end.OpEnd.{OpEnd}
+use Rattle.sw_operation.specs.declared.end.OpEnd.TheVariants as end
+use Rattle.sw_sim_world.specs.Doing.{Done}
 
 -- A line tells the end of an operation.
 pub record TellsEndOf (done : Done) (operation : Operating) (how : OpEnd) : Type 0 where

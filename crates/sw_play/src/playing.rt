@@ -3,14 +3,15 @@
 ghost use Rattle.std.specs.Prelude.{◌≡◌, ◌≤◌, ◌⊎◌, true, IfErr, OnErr, OnOk, length};
 ghost use Rattle.sw_play.specs.Lines.{DoesLine, StopsEvent, StopsLine, TellsEvent, stop_of};
 ghost use Rattle.sw_play.specs.Play.{Played, greatest_script};
-ghost use Rattle.sw_world.specs.Scripted.{Scripted};
-ghost use Rattle.sw_world.specs.Standing.{StandsFor};
+ghost use Rattle.sw_sim_world.specs.ScriptedWorld.{ScriptedWorld};
+ghost use Rattle.sw_sim_world.specs.Standing.{StandsFor};
 ghost use Rattle.sw_script.specs.Line.{lines_of};
 
 use std::alloc::Global;
 use sw_script::{Event, LineFault, cut_at};
+use sw_sim_text::print_told;
+use sw_sim_world::{StepFault, World};
 use sw_types::{Bytes, NoMemory};
-use sw_world::{StepFault, World};
 
 /// The greatest number of bytes of a script.
 pub const GREATEST_SCRIPT: usize = 67_108_864;
@@ -34,7 +35,7 @@ pub enum PlayEnd {
 /// and operations beside which nothing steps end in full (`EndsInFull`). After want of memory the world answers so from then on.
 pub fn play(alloc: Global, input: &[u8], world: &mut World<'_>, text: &mut Bytes) -> PlayEnd
     requires { length input.now ≤ greatest_script }
-    ensures played { (before : Scripted) → StandsFor world.old before → Played before (lines_of input.now) result world.new text.old text.new }
+    ensures played { (before : ScriptedWorld) → StandsFor world.old before → Played before (lines_of input.now) result world.new text.old text.new }
     ensures wanted { world.old.is_wanting ≡ true → (result ≡ PlayEnd.NoMemory) × (world.new.is_wanting ≡ true) × (text.new ≡ text.old) }
     ensures cluster { world.new.cluster ≡ world.old.cluster }
 {
@@ -90,8 +91,8 @@ fn do_line(
     world: &mut World<'_>,
     text: &mut Bytes,
 ) -> Result<(), LineStop>
-    ensures ok { (before : Scripted) → StandsFor world.old before → OnOk result (DoesLine before line.now world.new text.old text.new) }
-    ensures stops { (before : Scripted) → StandsFor world.old before → IfErr result (λ stop. StopsLine before line.now stop world.old world.new) }
+    ensures ok { (before : ScriptedWorld) → StandsFor world.old before → OnOk result (DoesLine before line.now world.new text.old text.new) }
+    ensures stops { (before : ScriptedWorld) → StandsFor world.old before → IfErr result (λ stop. StopsLine before line.now stop world.old world.new) }
     ensures wants { IfErr result (λ stop. stop ≡ LineStop.NoMemory → world.new.is_wanting ≡ true) }
     ensures text { OnErr result (text.new ≡ text.old) }
     ensures cluster { world.new.cluster ≡ world.old.cluster }
@@ -114,14 +115,14 @@ fn do_event(
     world: &mut World<'_>,
     text: &mut Bytes,
 ) -> Result<(), LineStop>
-    ensures ok { (before : Scripted) → StandsFor world.old before → OnOk result (TellsEvent before event.now world.new text.old text.new) }
-    ensures stops { (before : Scripted) → StandsFor world.old before → IfErr result (λ stop. StopsEvent before event.now stop world.old world.new) }
+    ensures ok { (before : ScriptedWorld) → StandsFor world.old before → OnOk result (TellsEvent before event.now world.new text.old text.new) }
+    ensures stops { (before : ScriptedWorld) → StandsFor world.old before → IfErr result (λ stop. StopsEvent before event.now stop world.old world.new) }
     ensures wants { IfErr result (λ stop. stop ≡ LineStop.NoMemory → world.new.is_wanting ≡ true) }
     ensures text { OnErr result (text.new ≡ text.old) }
     ensures cluster { world.new.cluster ≡ world.old.cluster }
 {
     let told = world.step(event)?;
-    match told.print(alloc, text) {
+    match print_told(alloc, &told, text) {
         Ok(()) => Ok(()),
         Err(NoMemory) => {
             world.give_up();

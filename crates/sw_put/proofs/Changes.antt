@@ -5,7 +5,7 @@ use Rattle.std.proofs.lemmas.Option.{none-some, same_Some}
 use Rattle.sw_types.specs.Policy.{PolicyModel}
 use Rattle.sw_archive.specs.Put.{put_archive}
 use Rattle.sw_message.specs.Tickets.{AreTickets}
-use Rattle.sw_message.specs.Transcript.{Gave, Hand, Step, Told, open_at, told}
+use Rattle.sw_message.specs.Transcript.{Closed, Gave, Hand, Step, after_answer, open_at}
 use Rattle.sw_message.specs.declared.message.Msg.{Msg}
 use Rattle.sw_message.specs.declared.message.Msg.TheVariants.{PutFrag}
 use Rattle.sw_message.specs.declared.reply.Reply.{Reply}
@@ -13,7 +13,7 @@ use Rattle.sw_message.specs.declared.sent.Sent.{Sent}
 use Rattle.sw_message.specs.declared.target.Target.{Target}
 use Rattle.sw_quorum.specs.Answers.{Judged, missed}
 use Rattle.sw_quorum.specs.Tally.{Counts, counts_of}
-use Rattle.sw_quorum.specs.Transcripts.{run-told, told-ignored, told-open}
+use Rattle.sw_quorum.proofs.Transcripts.{run-told, told-ignored, told-open}
 use Rattle.sw_put.specs.Inside.{put_seen}
 use Rattle.sw_put.specs.Plans.{planned}
 use Rattle.sw_put.specs.Put.{Begun, IsNext, commits, commits_due, due, handoffs, put_end, put_message, put_next, replacements, stores, stores_due}
@@ -110,8 +110,8 @@ module _ (put : PutModel) (begun : Begun) (past : List Step) (stands : Stands pu
       let closed = over-closed begun past stands.run (ended begun past end (stands.end_is end ends)) in
       none-some sent (sym (ap (find (λ (one : Sent). one.ticket == ticket)) closed) ∙ is)
 
-  pub stands_ignored : (flags : List Bool) (ticket : ℕ) (answer : Option Reply) → open_at ticket past ≡ None → AreTickets flags (told past ticket answer)
-      → Stands (record put { tickets = flags }) begun (told past ticket answer)
+  pub stands_ignored : (flags : List Bool) (ticket : ℕ) (answer : Option Reply) → open_at ticket past ≡ None → AreTickets flags (after_answer past ticket answer)
+      → Stands (record put { tickets = flags }) begun (after_answer past ticket answer)
   stands_ignored flags ticket answer none are =
       let same = told-ignored past ticket answer none in
       subst (Stands (record put { tickets = flags }) begun) (sym same) (record {
@@ -158,11 +158,11 @@ module _ (put : PutModel) (begun : Begun) (past : List Step) (stands : Stands pu
     nothing_planned = stands.commits_due_are ∙ no_commits begun (stores past) stores_missing
 
     pub stands_stored : (flags : List Bool) (counts : Counts Target) (plans : List Target) (count : ℕ) (answer : Option Reply)
-        → AreTickets flags (told past ticket answer)
+        → AreTickets flags (after_answer past ticket answer)
         → ((answers : List (Judged Target)) → put.stores ≡ counts_of answers → counts ≡ counts_of (answers ++ record { about = target; verdict = store_verdict put.stamp answer } ∷ []))
         → ((answers : List (Judged Target)) → counts ≡ counts_of answers → count ≡ length (stores_due_by begun answers))
         → plans ≡ planned counts count put.enough_stored
-        → Stands (record put { tickets = flags; stores = counts; commits_due = plans }) begun (told past ticket answer)
+        → Stands (record put { tickets = flags; stores = counts; commits_due = plans }) begun (after_answer past ticket answer)
     stands_stored flags counts plans count answer are taken counted plan =
         let message = message_is ticket (StoreAt target) sent is found in
         let path = told-open past ticket answer sent is in
@@ -181,13 +181,13 @@ module _ (put : PutModel) (begun : Begun) (past : List Step) (stands : Stands pu
           object_is = stands.object_is;
           primaries_are = stands.primaries_are;
           handoffs_are = stands.handoffs_are;
-          stores_are = stored ∙ ap (λ (one : Sent). counts_of (stores (Told one answer ∷ past))) (sym message);
-          commits_are = stands.commits_are ∙ ap counts_of (sym (append-nil (commits past))) ∙ ap (λ (one : Sent). counts_of (commits (Told one answer ∷ past))) (sym message);
+          stores_are = stored ∙ ap (λ (one : Sent). counts_of (stores (Closed one answer ∷ past))) (sym message);
+          commits_are = stands.commits_are ∙ ap counts_of (sym (append-nil (commits past))) ∙ ap (λ (one : Sent). counts_of (commits (Closed one answer ∷ past))) (sym message);
           commits_due_are = plan
               ∙ ap (λ (counts : Counts Target). planned counts count put.enough_stored) stored
               ∙ ap (λ count. planned (counts_of after) count put.enough_stored) (counted after stored)
               ∙ ap (planned (counts_of after) (length (stores_due_by begun after))) stands.enough_stored_is
-              ∙ ap (λ (one : Sent). commits_due begun (Told one answer ∷ past)) (sym message);
+              ∙ ap (λ (one : Sent). commits_due begun (Closed one answer ∷ past)) (sym message);
           tickets_are = subst (AreTickets flags) path are;
           end_is = λ end ends. absurd (no_longer ticket sent end is ends);
         })
@@ -206,9 +206,9 @@ module _ (put : PutModel) (begun : Begun) (past : List Step) (stands : Stands pu
         )
 
     pub stands_committed : (flags : List Bool) (counts : Counts Target) (answer : Option Reply)
-        → AreTickets flags (told past ticket answer)
+        → AreTickets flags (after_answer past ticket answer)
         → ((answers : List (Judged Target)) → put.commits ≡ counts_of answers → counts ≡ counts_of (answers ++ record { about = target; verdict = commit_verdict put.stamp answer } ∷ []))
-        → Stands (record put { tickets = flags; commits = counts }) begun (told past ticket answer)
+        → Stands (record put { tickets = flags; commits = counts }) begun (after_answer past ticket answer)
     stands_committed flags counts answer are taken =
         let message = message_is ticket (CommitAt target) sent is found in
         let path = told-open past ticket answer sent is in
@@ -224,13 +224,13 @@ module _ (put : PutModel) (begun : Begun) (past : List Step) (stands : Stands pu
           object_is = stands.object_is;
           primaries_are = stands.primaries_are;
           handoffs_are = stands.handoffs_are;
-          stores_are = stands.stores_are ∙ ap counts_of (sym (append-nil (stores past))) ∙ ap (λ (one : Sent). counts_of (stores (Told one answer ∷ past))) (sym message);
+          stores_are = stands.stores_are ∙ ap counts_of (sym (append-nil (stores past))) ∙ ap (λ (one : Sent). counts_of (stores (Closed one answer ∷ past))) (sym message);
           commits_are = taken (commits past) stands.commits_are
               ∙ ap (λ stamp. counts_of (commits past ++ record { about = target; verdict = commit_verdict stamp answer } ∷ [])) stands.stamp_is
-              ∙ ap (λ (one : Sent). counts_of (commits (Told one answer ∷ past))) (sym message);
+              ∙ ap (λ (one : Sent). counts_of (commits (Closed one answer ∷ past))) (sym message);
           commits_due_are = stands.commits_due_are
               ∙ ap (commits_due_by begun) (sym (append-nil (stores past)))
-              ∙ ap (λ (one : Sent). commits_due begun (Told one answer ∷ past)) (sym message);
+              ∙ ap (λ (one : Sent). commits_due begun (Closed one answer ∷ past)) (sym message);
           tickets_are = subst (AreTickets flags) path are;
           end_is = λ end ends. absurd (no_longer ticket sent end is ends);
         })

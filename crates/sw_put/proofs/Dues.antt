@@ -13,8 +13,8 @@ use Rattle.sw_message.specs.declared.target.Target.{Target}
 use Rattle.sw_quorum.specs.Answers.{Judged, done, floors, missed}
 use Rattle.sw_message.proofs.Ascents.{sum_ascending}
 use Rattle.sw_quorum.specs.Dues.{IsLonger}
-use Rattle.sw_quorum.specs.Laws.{sum-ones}
-use Rattle.sw_quorum.specs.Lookups.{slice_get-behind, slice_get-front, slice_get_none}
+use Rattle.sw_quorum.proofs.Laws.{sum-ones}
+use Rattle.sw_quorum.proofs.Lookups.{slice_get-behind, slice_get-front, slice_get_none}
 use Rattle.sw_put.specs.Plans.{replacement}
 use Rattle.sw_put.specs.declared.errand.Errand.{Errand}
 use Rattle.sw_put.specs.declared.errand.Errand.TheVariants.{CommitAt, StoreAt}

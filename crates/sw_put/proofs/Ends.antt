@@ -18,11 +18,11 @@ use Rattle.sw_message.specs.declared.target.Target.{Target}
 use Rattle.sw_message.proofs.Ascents.{sum_ascending}
 use Rattle.sw_message.proofs.Highest.{is_highest}
 use Rattle.sw_quorum.specs.Answers.{Judged, done, floors, missed}
-use Rattle.sw_quorum.specs.DueLaws as laws
-use Rattle.sw_quorum.specs.Laws.{none-forbidden, parts, sum-ones}
-use Rattle.sw_quorum.specs.Lookups.{slice_get-behind}
-use Rattle.sw_quorum.specs.Places.{apart-from_once, counted-among, one_if, some-counted, some-passing}
-use Rattle.sw_quorum.specs.Quorums.{quorums}
+use Rattle.sw_quorum.proofs.DueLaws as laws
+use Rattle.sw_quorum.proofs.Laws.{none-forbidden, parts, sum-ones}
+use Rattle.sw_quorum.proofs.Lookups.{slice_get-behind}
+use Rattle.sw_quorum.proofs.Places.{apart-from_once, counted-among, one_if, some-counted, some-passing}
+use Rattle.sw_quorum.proofs.Quorums.{quorums}
 use Rattle.sw_put.specs.Causes.{AreMany, IsCreated, IsSuperseded, IsTooFewCommits, IsTooFewSynced, WasCommitted, WasMissed, WasNotCommitted, WasStored, WasTold}
 use Rattle.sw_put.specs.Plans.{replacement}
 use Rattle.sw_put.specs.Put.{Begun, IsBegun, IsNext, commits, commits_due, committed_end, due, end_at, handoffs, misses, place_of, primaries, put_end, put_message, put_next, replacements, settled_end, stores, stores_due, too_few_commits}

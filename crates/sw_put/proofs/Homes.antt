@@ -12,7 +12,7 @@ use Rattle.sw_ring.proofs.Roles.{column_length}
 use Rattle.sw_message.specs.Floors.{highest, stands_above}
 use Rattle.sw_message.specs.Message.{IsMember}
 use Rattle.sw_message.specs.Targets.{ascending}
-use Rattle.sw_message.specs.Transcript.{Gave, IsRun, Step, Told}
+use Rattle.sw_message.specs.Transcript.{Closed, Gave, IsRun, Step}
 use Rattle.sw_message.specs.Warrant.{IsHome}
 use Rattle.sw_message.specs.declared.miss.Miss.{Miss}
 use Rattle.sw_message.specs.declared.reply.Reply.{Reply}
@@ -21,9 +21,9 @@ use Rattle.sw_message.specs.declared.sent.Sent.{Sent}
 use Rattle.sw_message.specs.declared.target.Target.{Target}
 use Rattle.sw_message.proofs.Ascents.{all_ascending}
 use Rattle.sw_quorum.specs.Answers.{done, floors, missed}
-use Rattle.sw_quorum.specs.Laws.{done-each, missed-each}
-use Rattle.sw_quorum.specs.Places.{handoffs_apart, handoffs_known, part_small}
-use Rattle.sw_quorum.specs.Refusals.{not-done}
+use Rattle.sw_quorum.proofs.Laws.{done-each, missed-each}
+use Rattle.sw_quorum.proofs.Places.{handoffs_apart, handoffs_known, part_small}
+use Rattle.sw_quorum.proofs.Refusals.{not-done}
 use Rattle.sw_quorum.specs.declared.verdict.Verdict.TheVariants.{Done}
 use Rattle.sw_put.specs.Causes.{WasStored}
 use Rattle.sw_put.specs.Put.{Begun, IsBegun, IsNext, commits_due, due, handoffs, place_of, primaries, put_message, replacements, stores, stores_due}
@@ -110,19 +110,19 @@ module _ (begun : Begun) (valid : IsBegun begun) where
   still : (past : List Step) (step : Step) (targets : List Target) → All (λ (target : Target). IsFit begun target × WasStored begun past target) targets → All (λ (target : Target). IsFit begun target × WasStored begun (step ∷ past) target) targets
   still past step targets all =
       All-weaker (λ (target : Target). IsFit begun target × WasStored begun past target) (λ (target : Target). IsFit begun target × WasStored begun (step ∷ past) target)
-      (λ target was. (was.0, (was.1.0, Contains-cons (Told (put_message begun was.1.0 (StoreAt target)) (Some reply.Synced)) step past was.1.1))) targets all
+      (λ target was. (was.0, (was.1.0, Contains-cons (Closed (put_message begun was.1.0 (StoreAt target)) (Some reply.Synced)) step past was.1.1))) targets all
 
-  told-known : (past : List Step) (ticket : ℕ) (errand : Errand) (answer : Option Reply) → AreKnown past → Fits begun past errand → AreKnown (Told (put_message begun ticket errand) answer ∷ past)
+  told-known : (past : List Step) (ticket : ℕ) (errand : Errand) (answer : Option Reply) → AreKnown past → Fits begun past errand → AreKnown (Closed (put_message begun ticket errand) answer ∷ past)
   told-known past ticket (StoreAt target) answer known fit =
-      let step : Step = Told (put_message begun ticket (StoreAt target)) answer in
+      let step : Step = Closed (put_message begun ticket (StoreAt target)) answer in
       record {
         misses = missed-each (λ (miss : Target × Miss). IsFit begun miss.0) (stores past) target (store_verdict begun.stamp answer) (λ miss is. fit) known.misses;
         stored = done-each (λ (target : Target). IsFit begun target × WasStored begun (step ∷ past) target) (stores past) target (store_verdict begun.stamp answer)
-            (λ is. (fit, (ticket, (zero, omega arith, ap (λ answer. Told (put_message begun ticket (StoreAt target)) answer) (synced begun.stamp answer is)))))
+            (λ is. (fit, (ticket, (zero, omega arith, ap (λ answer. Closed (put_message begun ticket (StoreAt target)) answer) (synced begun.stamp answer is)))))
             (still past step (done (stores past)) known.stored);
       }
   told-known past ticket (CommitAt target) answer known fit =
-      let step : Step = Told (put_message begun ticket (CommitAt target)) answer in
+      let step : Step = Closed (put_message begun ticket (CommitAt target)) answer in
       record {
         misses = All-same (λ (miss : Target × Miss). IsFit begun miss.0) _ _ (ap missed (append-nil (stores past))) known.misses;
         stored = All-same (λ (target : Target). IsFit begun target × WasStored begun (step ∷ past) target) _ _ (ap done (append-nil (stores past))) (still past step (done (stores past)) known.stored);
@@ -131,10 +131,10 @@ module _ (begun : Begun) (valid : IsBegun begun) where
   pub known : (past : List Step) → IsRun (IsNext begun) past → AreKnown past
   known [] run = record { misses = All-nil _; stored = All-nil _ }
   known (Gave sent ∷ past) run = let before = known past run.1 in record { misses = before.misses; stored = still past (Gave sent) (done (stores past)) before.stored }
-  known (Told sent answer ∷ past) run =
+  known (Closed sent answer ∷ past) run =
       let before = known past run.1 in
       let put = (open-put begun past sent.ticket sent run.1 run.0).0 in
-      subst (λ (one : Sent). AreKnown (Told one answer ∷ past)) (sym put.is) (told-known past sent.ticket put.about answer before (at past sent.ticket put.about before put.found))
+      subst (λ (one : Sent). AreKnown (Closed one answer ∷ past)) (sym put.is) (told-known past sent.ticket put.about answer before (at past sent.ticket put.about before put.found))
 
   -- what is due goes where it may
   pub fits : (past : List Step) (number : ℕ) (errand : Errand) → IsRun (IsNext begun) past → slice_get (due begun past) number ≡ Some errand → Fits begun past errand

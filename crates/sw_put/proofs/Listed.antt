@@ -5,7 +5,7 @@ use Rattle.std.proofs.lemmas.List.{get_or-map, length-map}
 use Rattle.std.proofs.lemmas.List.Elements.{Contains-get_or}
 use Rattle.sw_message.specs.declared.miss.Miss.{Miss}
 use Rattle.sw_message.specs.declared.target.Target.{Target}
-use Rattle.sw_quorum.specs.Places.{apart-from_once}
+use Rattle.sw_quorum.proofs.Places.{apart-from_once}
 
 abbrev pub with_device : Target × Miss → ℕ × Miss
 with_device one = (one.0.device, one.1)

@@ -4,15 +4,16 @@ use Rattle.std.specs.List.{sum_by}
 use Rattle.std.proofs.lemmas.List.{length-append, length-map, map-append}
 use Rattle.std.proofs.lemmas.List.Sums.{sum_by-append}
 use Rattle.std.proofs.lemmas.Option.{none-some}
-use Rattle.sw_message.specs.Transcript.{Gave, Hand, IsRun, Next, Over, Step, Told, Wait, given, open_at, opens}
+use Rattle.sw_message.specs.Transcript.{Closed, Gave, Hand, IsRun, Next, Over, Step, Wait, given, open_at, opens}
 use Rattle.sw_message.specs.declared.reply.Reply.{Reply}
 use Rattle.sw_message.specs.declared.sent.Sent.{Sent}
 use Rattle.sw_message.specs.declared.target.Target.{Target}
 use Rattle.sw_quorum.specs.Answers.{Judged, missed, missed_in}
-use Rattle.sw_quorum.specs.DueLaws as laws
+use Rattle.sw_quorum.proofs.DueLaws as laws
 use Rattle.sw_quorum.specs.Dues.{Grew, IsDue, IsLonger}
-use Rattle.sw_quorum.specs.Laws.{counts-within, judged, missed-more, sum-ones}
-use Rattle.sw_quorum.specs.Transcripts.{answers-weigh, numbered, one_less, told_count}
+use Rattle.sw_quorum.proofs.Laws.{counts-within, judged, missed-more, sum-ones}
+use Rattle.sw_quorum.proofs.Transcripts.{answers-weigh, numbered, one_less}
+use Rattle.sw_quorum.specs.Transcripts.{closed_count}
 use Rattle.sw_put.specs.Put.{Begun, IsNext, commits, commits_due, due, end_at, handoffs, judge_commit, judge_store, primaries, put_end, put_message, put_next, replacements, stores, stores_due}
 use Rattle.sw_quorum.specs.Targets.{targets_from}
 use Rattle.sw_quorum.specs.Verdicts.{store_verdict}
@@ -111,7 +112,7 @@ module _ (begun : Begun) (past : List Step) (ticket : ℕ) (target : Target) whe
       )
 
 module _ (begun : Begun) (past : List Step) (ticket : ℕ) (target : Target) (answer : Option Reply) where
-  told-store : length (stores past) < length (stores_due begun past) → IsLonger (due begun past) (due begun (Told (put_message begun ticket (StoreAt target)) answer ∷ past))
+  told-store : length (stores past) < length (stores_due begun past) → IsLonger (due begun past) (due begun (Closed (put_message begun ticket (StoreAt target)) answer ∷ past))
   told-store few =
       let after : List (Judged Target) = stores past ++ judged target (store_verdict begun.stamp answer) ∷ [] in
       let front : List Target = targets_from 0 (primaries begun) in
@@ -130,22 +131,22 @@ module _ (begun : Begun) (past : List Step) (ticket : ℕ) (target : Target) (an
             ∙ ap (λ these. these ++ (map StoreAt grows.0 ++ later)) (sym before),
       )
 
-  told-commit : IsLonger (due begun past) (due begun (Told (put_message begun ticket (CommitAt target)) answer ∷ past))
+  told-commit : IsLonger (due begun past) (due begun (Closed (put_message begun ticket (CommitAt target)) answer ∷ past))
   told-commit = ([], ap (due_by begun) (append-nil (stores past)) ∙ sym (append-nil (due begun past)))
 
 module _ (begun : Begun) where
-  grows-by : (past : List Step) (sent : Sent) (answer : Option Reply) (ticket : ℕ) (errand : Errand) → sent ≡ put_message begun ticket errand → IsRun (IsNext begun) (Told sent answer ∷ past) → Grew (due begun) past
-      → IsLonger (due begun past) (due begun (Told sent answer ∷ past))
+  grows-by : (past : List Step) (sent : Sent) (answer : Option Reply) (ticket : ℕ) (errand : Errand) → sent ≡ put_message begun ticket errand → IsRun (IsNext begun) (Closed sent answer ∷ past) → Grew (due begun) past
+      → IsLonger (due begun past) (due begun (Closed sent answer ∷ past))
   grows-by past sent answer ticket (StoreAt target) same run grown =
-      subst (λ (one : Sent). IsLonger (due begun past) (due begun (Told one answer ∷ past))) (sym same)
+      subst (λ (one : Sent). IsLonger (due begun past) (due begun (Closed one answer ∷ past))) (sym same)
       (told-store begun past ticket target answer (fewer-stored begun past ticket target sent run.1 grown run.0 same))
   grows-by past sent answer ticket (CommitAt target) same run grown =
-      subst (λ (one : Sent). IsLonger (due begun past) (due begun (Told one answer ∷ past))) (sym same) (told-commit begun past ticket target answer)
+      subst (λ (one : Sent). IsLonger (due begun past) (due begun (Closed one answer ∷ past))) (sym same) (told-commit begun past ticket target answer)
 
   pub grew : (past : List Step) → IsRun (IsNext begun) past → Grew (due begun) past
   grew [] run = tt
   grew (Gave sent ∷ past) run = (([], sym (append-nil (due begun past))), grew past run.1)
-  grew (Told sent answer ∷ past) run =
+  grew (Closed sent answer ∷ past) run =
       let grown = grew past run.1 in
       let known = laws.open-due (put_message begun) (own begun) (due begun) past sent.ticket sent run.1 grown run.0 in
       (grows-by past sent answer sent.ticket known.0.about known.0.is run grown, grown)
@@ -164,10 +165,10 @@ module _ (begun : Begun) where
   judged-one ticket (CommitAt target) answer = refl
 
   -- each answer is that to a fragment or to a commit
-  pub answers-are : (past : List Step) → IsRun (IsNext begun) past → length (stores past) + length (commits past) ≡ told_count past
+  pub answers-are : (past : List Step) → IsRun (IsNext begun) past → length (stores past) + length (commits past) ≡ closed_count past
   answers-are [] run = refl
   answers-are (Gave sent ∷ past) run = answers-are past run.1
-  answers-are (Told sent answer ∷ past) run =
+  answers-are (Closed sent answer ∷ past) run =
       let known = (open-put past sent.ticket sent run.1 run.0).0 in
       let one : length (judge_store sent.device sent.msg answer) + length (judge_commit sent.device sent.msg answer) ≡ 1 =
       ap (λ (one : Sent). length (judge_store one.device one.msg answer) + length (judge_commit one.device one.msg answer)) known.is ∙ judged-one sent.ticket known.about answer in
@@ -194,6 +195,6 @@ module _ (begun : Begun) where
   -- where it is over, each fragment and each commit was answered
   pub over-all : (past : List Step) → IsRun (IsNext begun) past → put_next begun past ≡ Over → (length (stores past) ≡ length (stores_due begun past)) × (length (commits past) ≡ length (commits_due begun past))
   over-all past run is =
-      let all : length (due begun past) ≤ told_count past = (laws.over (put_message begun) (due begun past) past is).1 in
+      let all : length (due begun past) ≤ closed_count past = (laws.over (put_message begun) (due begun past) past is).1 in
       let size : length (due begun past) ≡ length (stores_due begun past) + length (commits_due begun past) = length-due begun past in
       (omega (arith, all, size, answers-are past run, stores-within past run, commits-within past run), omega (arith, all, size, answers-are past run, stores-within past run, commits-within past run))

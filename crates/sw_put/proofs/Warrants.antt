@@ -5,7 +5,7 @@ use Rattle.std.proofs.lemmas.List.Elements.{All-weaker}
 use Rattle.std.proofs.lemmas.List.Sums.{sum_by-append}
 use Rattle.sw_message.specs.Learnt.{AreKnown, HasOwn, KnowsReply, Learnt, OwnPut}
 use Rattle.sw_message.specs.Running.{IsOf}
-use Rattle.sw_message.specs.Transcript.{Gave, IsRun, Step, Told}
+use Rattle.sw_message.specs.Transcript.{Closed, Gave, IsRun, Step}
 use Rattle.sw_message.specs.Warrant.{IsDecided, IsSynced, IsWarranted}
 use Rattle.sw_message.specs.declared.miss.Miss.{Miss}
 use Rattle.sw_message.specs.declared.reply.Reply.{Reply}
@@ -14,8 +14,8 @@ use Rattle.sw_message.specs.declared.sent.Sent.{Sent}
 use Rattle.sw_message.specs.declared.target.Target.{Target}
 use Rattle.sw_archive.specs.Put.{put_archive}
 use Rattle.sw_quorum.specs.Answers.{done, missed}
-use Rattle.sw_quorum.specs.Laws.{parts}
-use Rattle.sw_quorum.specs.Places.{apart-from_once, device_once, one_if, part_small, place_right}
+use Rattle.sw_quorum.proofs.Laws.{parts}
+use Rattle.sw_quorum.proofs.Places.{apart-from_once, device_once, one_if, part_small, place_right}
 use Rattle.sw_put.specs.Causes.{WasStored}
 use Rattle.sw_put.specs.Put.{Begun, IsBegun, IsNext, handoffs, place_of, primaries, put_message, replacements, stores}
 use Rattle.sw_quorum.specs.Targets.{targets_from}
@@ -62,15 +62,15 @@ module _ (begun : Begun) (past : List Step) (run : IsRun (IsNext begun) past) wh
 -- ---- what is known of a transcript's replies
 
 module _ (begun : Begun) (learnt : Learnt) where
-  reply_known : (past : List Step) (sent : Sent) (given : Reply) → AreKnown begun.cluster learnt past → Contains past (Told sent (Some given)) → KnowsReply begun.cluster learnt sent.device sent.msg (Some given)
+  reply_known : (past : List Step) (sent : Sent) (given : Reply) → AreKnown begun.cluster learnt past → Contains past (Closed sent (Some given)) → KnowsReply begun.cluster learnt sent.device sent.msg (Some given)
   reply_known [] sent given known (k, within, is) = absurd (omega (arith, within))
   reply_known (Gave other ∷ past) sent given known (zero, within, is) = absurd (cc)
   reply_known (Gave other ∷ past) sent given known (suc k, within, is) = reply_known past sent given known (k, omega (arith, within), is)
-  reply_known (Told other answer ∷ past) sent given known (zero, within, is) =
+  reply_known (Closed other answer ∷ past) sent given known (zero, within, is) =
       let same_sent : other ≡ sent = cc in
       let same_answer : answer ≡ Some given = cc in
       subst (λ (one : Sent). KnowsReply begun.cluster learnt one.device one.msg (Some given)) same_sent (subst (KnowsReply begun.cluster learnt other.device other.msg) same_answer known.0)
-  reply_known (Told other answer ∷ past) sent given known (suc k, within, is) = reply_known past sent given known.1 (k, omega (arith, within), is)
+  reply_known (Closed other answer ∷ past) sent given known (suc k, within, is) = reply_known past sent given known.1 (k, omega (arith, within), is)
 
   -- q that were stored decide the stamp
   decided : (past : List Step) → IsBegun begun → IsRun (IsNext begun) past → AreKnown begun.cluster learnt past → begun.cluster.policy.q ≤ length (done (stores past))

@@ -9,7 +9,7 @@ use Rattle.sw_message.specs.declared.miss.Miss.{Miss}
 use Rattle.sw_message.specs.declared.reply.Reply.{Reply}
 use Rattle.sw_message.specs.declared.target.Target.{Target}
 use Rattle.sw_quorum.specs.Answers.{Judged}
-use Rattle.sw_quorum.specs.Places.{one_if}
+use Rattle.sw_quorum.proofs.Places.{one_if}
 use Rattle.sw_put.specs.Put.{judge_commit, judge_store, replacements}
 use Rattle.sw_quorum.specs.Targets.{targets_from}
 use Rattle.sw_put.specs.declared.errand.Errand.{Errand}

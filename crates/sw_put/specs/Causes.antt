@@ -3,7 +3,7 @@ use Rattle.std.specs.Prelude.{◌≡◌, ◌≢◌, ◌⊎◌, ℕ, ◌+◌, ◌
 use Rattle.std.specs.List.{All, AllPairs}
 use Rattle.sw_hashdir.specs.Directory.{IsAbove, StandsAbove}
 use Rattle.sw_hashdir.specs.declared.floor.Floor.{Floor}
-use Rattle.sw_message.specs.Transcript.{Step, Told, given}
+use Rattle.sw_message.specs.Transcript.{Closed, Step, given}
 use Rattle.sw_message.specs.Warrant.{IsHome}
 use Rattle.sw_message.specs.declared.miss.Miss.{Miss}
 use Rattle.sw_message.specs.declared.reply.Reply.{Reply}
@@ -20,20 +20,20 @@ use Rattle.sw_put.specs.declared.errand.Errand.TheVariants.{CommitAt, StoreAt}
 
 -- the device answered that it has stored the fragment of the index, or made it durable
 abbrev pub WasStored : Begun → List Step → Target → Type 0
-WasStored begun past target = (ticket : ℕ) × Contains past (Told (put_message begun ticket (StoreAt target)) (Some reply.Synced))
+WasStored begun past target = (ticket : ℕ) × Contains past (Closed (put_message begun ticket (StoreAt target)) (Some reply.Synced))
 
 abbrev pub WasCommitted : Begun → List Step → Target → Type 0
-WasCommitted begun past target = (ticket : ℕ) × Contains past (Told (put_message begun ticket (CommitAt target)) (Some reply.Committed))
+WasCommitted begun past target = (ticket : ℕ) × Contains past (Closed (put_message begun ticket (CommitAt target)) (Some reply.Committed))
 
 -- its answer to the fragment, or that there was none, was a miss
 abbrev pub WasMissed : Begun → List Step → Target → Miss → Type 0
 WasMissed begun past target miss =
-    (ticket : ℕ) × (answer : Option Reply) × Contains past (Told (put_message begun ticket (StoreAt target)) answer) × (store_verdict begun.stamp answer ≡ Missed miss)
+    (ticket : ℕ) × (answer : Option Reply) × Contains past (Closed (put_message begun ticket (StoreAt target)) answer) × (store_verdict begun.stamp answer ≡ Missed miss)
 
 -- its answer to the commit, or that there was none, was a miss
 abbrev pub WasNotCommitted : Begun → List Step → Target → Miss → Type 0
 WasNotCommitted begun past target miss =
-    (ticket : ℕ) × (answer : Option Reply) × Contains past (Told (put_message begun ticket (CommitAt target)) answer) × (commit_verdict begun.stamp answer ≡ Missed miss)
+    (ticket : ℕ) × (answer : Option Reply) × Contains past (Closed (put_message begun ticket (CommitAt target)) answer) × (commit_verdict begun.stamp answer ≡ Missed miss)
 
 -- the fragment of the index was handed out to the device
 abbrev pub WasSent : Begun → List Step → Target → Type 0
@@ -41,7 +41,7 @@ WasSent begun past target = (ticket : ℕ) × Contains (given past) (put_message
 
 -- some reply told of a floor that stands above the put's stamp
 abbrev pub WasTold : Begun → List Step → Floor → Type 0
-WasTold begun past floor = ((sent : Sent) × Contains past (Told sent (Some (reply.Superseded floor)))) × StandsAbove floor begun.stamp
+WasTold begun past floor = ((sent : Sent) × Contains past (Closed sent (Some (reply.Superseded floor)))) × StandsAbove floor begun.stamp
 
 -- so many targets, of different indices
 pub record AreMany (count : ℕ) (targets : List Target) : Type 0 where

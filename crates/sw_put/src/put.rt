@@ -2,8 +2,8 @@
 
 ghost use Rattle.std.specs.Prelude.{◌≡◌, ◌+◌, ◌-◌, ◌<◌, ℕ, [], ◌∷◌, List, Some, None, IfOk, MatchOption, OnErr, is_some, length, nat_lt, slice_get};
 ghost use Rattle.sw_archive.specs.Put.{put_archive};
-ghost use Rattle.sw_message.specs.Transcript.{Gave, Hand, Over, Step, told};
-ghost use Rattle.sw_quorum.specs.Transcripts.{told_count};
+ghost use Rattle.sw_message.specs.Transcript.{Gave, Hand, Over, Step, after_answer};
+ghost use Rattle.sw_quorum.specs.Transcripts.{closed_count};
 ghost use Rattle.sw_message.specs.declared.message.Msg.TheVariants.{PutFrag};
 ghost use Rattle.sw_put.specs.Plans.{device_in};
 ghost use Rattle.sw_put.specs.Put.{Begun, committed_end, commits, due, put_end, put_message, put_next, stores_due};
@@ -145,7 +145,7 @@ impl PutOp {
 
     // Whether some answer is missing to what has to be handed out.
     pub(crate) fn lacks_answers(&self) -> bool
-        ensures { (begun : Begun) (past : List Step) → Stands self.now begun past → result ≡ nat_lt (told_count past) (length (due begun past)) }
+        ensures { (begun : Begun) (past : List Step) → Stands self.now begun past → result ≡ nat_lt (closed_count past) (length (due begun past)) }
     {
         self.stores.answered() < self.store_count()
             || self.commits.answered() < self.commits_due.len()
@@ -153,7 +153,7 @@ impl PutOp {
 
     // Takes the answer to a ticket, or none. One that is not open is ignored. It takes no memory.
     pub(crate) fn answer(&mut self, ticket: u64, answer: Option<Reply>)
-        ensures stands { (begun : Begun) (past : List Step) → Stands self.old begun past → Stands self.new begun (told past ticket answer) }
+        ensures stands { (begun : Begun) (past : List Step) → Stands self.old begun past → Stands self.new begun (after_answer past ticket answer) }
         ensures end { self.new.end ≡ self.old.end }
         ensures left { most_messages self.new - length self.new.tickets ≡ most_messages self.old - length self.old.tickets }
     {

@@ -1,7 +1,7 @@
 -- What the answers to a write say: what was done, which floors forbid it, and what was missed.
 use Rattle.std.specs.Prelude.{Bool, true, false, List, [], ◌∷◌, ◌++◌, flat_map, Option}
 use Rattle.sw_hashdir.specs.declared.floor.Floor.{Floor}
-use Rattle.sw_message.specs.Transcript.{Gave, Step, Told}
+use Rattle.sw_message.specs.Transcript.{Closed, Gave, Step}
 use Rattle.sw_message.specs.declared.miss.Miss.{Miss}
 use Rattle.sw_message.specs.declared.miss.Miss.TheVariants as miss
 use Rattle.sw_message.specs.declared.reply.Reply.{Reply}
@@ -23,7 +23,7 @@ pub record Judged (T : Type 0) : Type 0 where
 abbrev pub answers : {T : Type 0} → (Sent → Option Reply → List (Judged T)) → List Step → List (Judged T)
 answers judge [] = []
 answers judge (Gave sent ∷ past) = answers judge past
-answers judge (Told sent answer ∷ past) = answers judge past ++ judge sent answer
+answers judge (Closed sent answer ∷ past) = answers judge past ++ judge sent answer
 
 abbrev pub done_in : {T : Type 0} → T → Verdict → List T
 done_in about Done = about ∷ []

@@ -2,11 +2,11 @@
 use Rattle.std.specs.Prelude.{◌≡◌, ℕ, if◌then◌else◌, nat_lt, List, [], ◌∷◌, ◌++◌, length, slice_get, Option, Some, None, ⊤}
 use Rattle.sw_message.specs.Transcript.{Hand, Next, Over, Step, Wait, given}
 use Rattle.sw_message.specs.declared.sent.Sent.{Sent}
-use Rattle.sw_quorum.specs.Transcripts.{told_count}
+use Rattle.sw_quorum.specs.Transcripts.{closed_count}
 
 abbrev pub due_or : {D : Type 0} → (ℕ → D → Sent) → ℕ → List Step → Option D → Next
 due_or message count past (Some due) = Hand (message (length (given past)) due)
-due_or message count past None = if nat_lt (told_count past) count then Wait else Over
+due_or message count past None = if nat_lt (closed_count past) count then Wait else Over
 
 -- what comes after a transcript, once this is due: the ticket of a message is the number of those that were handed out before it
 abbrev pub due_next : {D : Type 0} → (ℕ → D → Sent) → List D → List Step → Next

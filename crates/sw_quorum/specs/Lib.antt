@@ -1,11 +1,5 @@
 pub mod Answers
-pub mod DueLaws
 pub mod Dues
-pub mod Laws
-pub mod Lookups
-pub mod Places
-pub mod Quorums
-pub mod Refusals
 pub mod Tally
 pub mod Targets
 pub mod Transcripts

@@ -8,11 +8,11 @@ use Rattle.sw_types.specs.declared.memory.NoMemory.{NoMemory}
 use Rattle.sw_ring.specs.Cluster.{ClusterModel}
 use Rattle.sw_message.specs.Floors.{stands_above}
 use Rattle.sw_message.specs.Tickets.{AreTickets}
-use Rattle.sw_message.specs.Transcript.{Gave, Hand, IsRun, Over, Step, Told, Wait, given, is_empty, is_waiting, open_at, opens, told}
+use Rattle.sw_message.specs.Transcript.{Closed, Gave, Hand, IsRun, Over, Step, Wait, after_answer, given, is_empty, is_waiting, open_at, opens}
 use Rattle.sw_message.specs.declared.reply.Reply.{Reply}
 use Rattle.sw_message.specs.declared.reply.Reply.TheVariants as reply
 use Rattle.sw_message.specs.declared.sent.Sent.{Sent}
-use Rattle.sw_quorum.specs.Transcripts.{run-told, told-ignored, told-open}
+use Rattle.sw_quorum.proofs.Transcripts.{run-told, told-ignored, told-open}
 use Rattle.sw_recon.specs.Inside.{revert_seen}
 use Rattle.sw_recon.specs.Revert.{Begun, IsBegun, IsEnd, IsNext, IsStatus, Leads, forbidden, next_at, next_or, stored}
 use Rattle.sw_recon.specs.Standing.{AreOpen, ReadsBy, RevertModel, Stands, ends, handed, handed_treatment}
@@ -102,8 +102,8 @@ module _ (begun : Begun) (past : List Step) (run : IsRun (IsNext begun) past) wh
   read_or true None seen reached read reads opened is =
       inr (ap ends reads.1 ∙ ends-handed reached ∙ goes-open (at_most_one begun past run) opened.0 reached opened.1 (subst (λ (steps : List Step). IsStatus begun steps reached) reads.0 is))
   read_or false (Some answer) seen reached read reads opened is =
-      let told : IsRun (IsNext begun) (Told reads.0.0 answer ∷ read) = subst (IsRun (IsNext begun)) reads.0.1 run in
-      inr (ap ends reads.1 ∙ ends-handed reached ∙ open-goes begun read reached (answered begun read reads.0.0 told.1 told.0).one is)
+      let after_answer : IsRun (IsNext begun) (Closed reads.0.0 answer ∷ read) = subst (IsRun (IsNext begun)) reads.0.1 run in
+      inr (ap ends reads.1 ∙ ends-handed reached ∙ open-goes begun read reached (answered begun read reads.0.0 after_answer.1 after_answer.0).one is)
   read_or true (Some answer) seen reached read reads opened is = absurd reads
 
 -- a status leads on
@@ -183,8 +183,8 @@ module _ (job : RevertModel) (begun : Begun) (past : List Step) (stands : Stands
     read-before sent true None read reached some opened reads = (reads.0, reads.1)
     read-before sent true (Some answer) read reached some opened reads = absurd reads
 
-    taken-after : (sent : Sent) (answer : Option Reply) → open_at sent.ticket past ≡ Some sent → IsRun (IsNext begun) (Told sent answer ∷ past) → AreTickets flags (Told sent answer ∷ past) → waiting ≡ false → unread ≡ Some answer
-        → Stands after begun (Told sent answer ∷ past)
+    taken-after : (sent : Sent) (answer : Option Reply) → open_at sent.ticket past ≡ Some sent → IsRun (IsNext begun) (Closed sent answer ∷ past) → AreTickets flags (Closed sent answer ∷ past) → waiting ≡ false → unread ≡ Some answer
+        → Stands after begun (Closed sent answer ∷ past)
     taken-after sent answer is_open run are none some =
         let is = answered begun past sent stands.run is_open in
         let before = read-before is.one.sent job.is_waiting job.unread stands.read stands.status is.one.opened stands.opened stands.reads in
@@ -195,16 +195,16 @@ module _ (job : RevertModel) (begun : Begun) (past : List Step) (stands : Stands
           device_is = stands.device_is;
           place_is = stands.place_is;
           tickets_are = are;
-          opened = subst (λ b. AreOpen b (opens (Told sent answer ∷ past))) (sym none) is.closed;
+          opened = subst (λ b. AreOpen b (opens (Closed sent answer ∷ past))) (sym none) is.closed;
           read = past;
           status = stands.status;
           is = subst (λ (steps : List Step). IsStatus begun steps stands.status) before.0 stands.is;
-          reads = subst (λ b. ReadsBy b unread job.status (Told sent answer ∷ past) past stands.status) (sym none)
-              (subst (λ (these : Option (Option Reply)). ReadsBy false these job.status (Told sent answer ∷ past) past stands.status) (sym some) ((sent, refl), before.1));
+          reads = subst (λ b. ReadsBy b unread job.status (Closed sent answer ∷ past) past stands.status) (sym none)
+              (subst (λ (these : Option (Option Reply)). ReadsBy false these job.status (Closed sent answer ∷ past) past stands.status) (sym some) ((sent, refl), before.1));
         }
 
-    told-at : (ticket : ℕ) (answer : Option Reply) (is_open : Bool) (opened : Option Sent) → open_at ticket past ≡ opened → is_open ≡ is_some opened → AreTickets flags (told past ticket answer)
-        → waiting ≡ (job.is_waiting && not is_open) → unread ≡ (if is_open then Some answer else job.unread) → Stands after begun (told past ticket answer)
+    told-at : (ticket : ℕ) (answer : Option Reply) (is_open : Bool) (opened : Option Sent) → open_at ticket past ≡ opened → is_open ≡ is_some opened → AreTickets flags (after_answer past ticket answer)
+        → waiting ≡ (job.is_waiting && not is_open) → unread ≡ (if is_open then Some answer else job.unread) → Stands after begun (after_answer past ticket answer)
     told-at ticket answer is_open None is flag are waits unread_is =
         let path = told-ignored past ticket answer is in
         subst (Stands after begun) (sym path)
@@ -219,8 +219,8 @@ module _ (job : RevertModel) (begun : Begun) (past : List Step) (stands : Stands
         subst (Stands after begun) (sym path)
         (taken-after sent answer run.0 run (subst (AreTickets flags) path are) (waits ∙ and_right job.is_waiting (not is_open) (ap not flag)) (unread_is ∙ ap (λ b. if b then Some answer else job.unread) flag))
 
-    pub stands_told : (ticket : ℕ) (answer : Option Reply) (is_open : Bool) → is_open ≡ is_some (open_at ticket past) → AreTickets flags (told past ticket answer)
-        → waiting ≡ (job.is_waiting && not is_open) → unread ≡ (if is_open then Some answer else job.unread) → Stands after begun (told past ticket answer)
+    pub stands_told : (ticket : ℕ) (answer : Option Reply) (is_open : Bool) → is_open ≡ is_some (open_at ticket past) → AreTickets flags (after_answer past ticket answer)
+        → waiting ≡ (job.is_waiting && not is_open) → unread ≡ (if is_open then Some answer else job.unread) → Stands after begun (after_answer past ticket answer)
     stands_told ticket answer is_open flag are waits unread_is = told-at ticket answer is_open (open_at ticket past) refl flag are waits unread_is
 
   -- ---- an answer is read
@@ -235,7 +235,7 @@ module _ (job : RevertModel) (begun : Begun) (past : List Step) (stands : Stands
       → (waiting ≡ false) × IsStatus begun past next
   read-at true answer next reached read reads is leads = absurd reads
   read-at false answer next reached read reads is leads =
-      let now : IsStatus begun (Told reads.0.0 answer ∷ read) next = (reached, is, unhanded begun answer next reached (subst (λ (before : Status). Leads begun before answer next) reads.1 leads)) in
+      let now : IsStatus begun (Closed reads.0.0 answer ∷ read) next = (reached, is, unhanded begun answer next reached (subst (λ (before : Status). Leads begun before answer next) reads.1 leads)) in
       (refl, subst (λ (steps : List Step). IsStatus begun steps next) (sym reads.0.1) now)
 
   pub stands_read : (answer : Option Reply) (next : Status) → job.unread ≡ Some answer

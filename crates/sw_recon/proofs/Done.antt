@@ -2,7 +2,7 @@
 use Rattle.std.proofs.Common.{inl, inr, ℕ, ◌+◌, List, [], ◌∷◌, ◌++◌, Option, Some, refl, ap}
 use Rattle.sw_hashdir.specs.declared.entry.Entry.{Entry}
 use Rattle.sw_ring.proofs.Among.{Contains-cons}
-use Rattle.sw_message.specs.Transcript.{Step, Told}
+use Rattle.sw_message.specs.Transcript.{Closed, Step}
 use Rattle.sw_message.specs.declared.message.Msg.{Msg}
 use Rattle.sw_message.specs.declared.miss.Miss.{Miss}
 use Rattle.sw_message.specs.declared.reply.Reply.{Reply}
@@ -17,7 +17,7 @@ use Rattle.sw_recon.specs.declared.kept.KeptEntry.{KeptEntry}
 
 module _ (past : List Step) (step : Step) where
   pub told-later : (device : ℕ) (msg : Msg) (answer : Option Reply) → WasTold past device msg answer → WasTold (step ∷ past) device msg answer
-  told-later device msg answer (ticket, there) = (ticket, Contains-cons (Told (record { ticket = ticket; device = device; msg = msg }) answer) step past there)
+  told-later device msg answer (ticket, there) = (ticket, Contains-cons (Closed (record { ticket = ticket; device = device; msg = msg }) answer) step past there)
 
   module _ (begun : Begun) where
     missed-later : (entry : Entry) (how : Miss) → WasMissed begun past entry how → WasMissed begun (step ∷ past) entry how

@@ -16,13 +16,13 @@ use Rattle.sw_ring.specs.Ring.{is_among}
 use Rattle.sw_ring.proofs.Among.{Contains-cons, among-from_Contains}
 use Rattle.sw_ring.proofs.Roles.{column_length}
 use Rattle.sw_message.specs.Message.{AreAlike}
-use Rattle.sw_message.specs.Transcript.{Gave, Hand, IsFirst, IsRun, Step, Told, given, opens}
+use Rattle.sw_message.specs.Transcript.{Closed, Gave, Hand, IsFirst, IsRun, Step, given, opens}
 use Rattle.sw_message.specs.declared.message.Msg.{Msg}
 use Rattle.sw_message.specs.declared.message.Msg.TheVariants as message
 use Rattle.sw_message.specs.declared.reply.Reply.{Reply}
 use Rattle.sw_message.specs.declared.reply.Reply.TheVariants as reply
 use Rattle.sw_message.specs.declared.sent.Sent.{Sent}
-use Rattle.sw_quorum.specs.Places.{one_if}
+use Rattle.sw_quorum.proofs.Places.{one_if}
 use Rattle.sw_recon.specs.Causes.{ListsOwn}
 use Rattle.sw_recon.specs.Course.{Course, most_entries}
 use Rattle.sw_recon.specs.Revert.{Begun, IsBegun, IsNext, IsStatus, Leads, goes_on, message_for, next_at, own_message, primary_of, started_by, total, treat, treat_message}
@@ -110,7 +110,7 @@ module _ (begun : Begun) where
     question-more device Commit = omega (arith, asked-more 3 4 (has_primary begun device course.entry) (omega arith))
     question-more device Remove = omega (arith, asked-more 4 5 (has_primary begun device course.entry) (omega arith))
 
-    gave-told : (sent other : Sent) (answer : Option Reply) → Contains (Gave sent ∷ past) (Told other answer) → Contains past (Told other answer)
+    gave-told : (sent other : Sent) (answer : Option Reply) → Contains (Gave sent ∷ past) (Closed other answer) → Contains past (Closed other answer)
     gave-told sent other answer (zero, within, is) = absurd (cc)
     gave-told sent other answer (suc k, within, is) = (k, omega (arith, within), is)
 
@@ -140,11 +140,11 @@ module _ (begun : Begun) where
   -- ---- an answer is read
 
   module _ (past : List Step) (sent : Sent) (answer : Option Reply) (course : Course) (bound : ℕ) (few : bound ≤ rank course.treatment + 1) (not_own : sent ≡ own_message begun 0 → ⊥) (is : IsOrderly past course bound) where
-    only-told : (other : ListingModel) → ListsOwn begun (Told sent answer ∷ past) other → other ≡ is.listing
+    only-told : (other : ListingModel) → ListsOwn begun (Closed sent answer ∷ past) other → other ≡ is.listing
     only-told other (zero, within, same) = absurd (not_own (cc))
     only-told other (suc k, within, same) = is.only other (k, omega (arith, within), same)
 
-    orderly-on : (treatment : Treatment) → rank course.treatment < rank treatment → IsOrderly (Told sent answer ∷ past) (record course { treatment = treatment }) (rank treatment)
+    orderly-on : (treatment : Treatment) → rank course.treatment < rank treatment → IsOrderly (Closed sent answer ∷ past) (record course { treatment = treatment }) (rank treatment)
     orderly-on treatment less = record {
       listing = is.listing;
       only = only-told;
@@ -159,7 +159,7 @@ module _ (begun : Begun) where
         still one (inr (about, by, same, inl before)) = inr (about, by, same, inl before)
         still one (inr (about, by, same, inr (this, lower))) = inr (about, by, same, inr (this, omega (arith, lower, few, less)))
 
-    orderly-next : (next : Course) → Begins course.later next → IsOrderly (Told sent answer ∷ past) next (rank next.treatment)
+    orderly-next : (next : Course) → Begins course.later next → IsOrderly (Closed sent answer ∷ past) next (rank next.treatment)
     orderly-next next begins =
         let passed : List Entry = course.entry ∷ begins.skipped in
         let front : List Entry = is.front ++ passed in
@@ -185,17 +185,17 @@ module _ (begun : Begun) where
         behind front one (inr (about, by, same, inr (this, lower))) =
             inr (about, by, same, inl (Contains-append_right is.front (course.entry ∷ begins.skipped) about (0, omega arith, sym this)))
 
-    orderly-told : (next : Course) → Advances (total begun) course (Treats next) → IsOrderly (Told sent answer ∷ past) next (rank next.treatment)
+    orderly-told : (next : Course) → Advances (total begun) course (Treats next) → IsOrderly (Closed sent answer ∷ past) next (rank next.treatment)
     orderly-told next (inl (treatment, less, on)) =
         let same : next ≡ record course { treatment = treatment } = cc (on) in
-        subst (λ (one : Course). IsOrderly (Told sent answer ∷ past) one (rank one.treatment)) (sym same) (orderly-on treatment less)
+        subst (λ (one : Course). IsOrderly (Closed sent answer ∷ past) one (rank one.treatment)) (sym same) (orderly-on treatment less)
     orderly-told next (inr (removed, kept, on)) = orderly-next next (treat-begins (total begun) course.later removed kept next on)
 
   -- ---- the own device has answered
 
   module _ (listing : ListingModel) where
     abbrev listed : List Step
-    listed = Told (own_message begun 0) (Some (reply.Held listing)) ∷ Gave (own_message begun 0) ∷ []
+    listed = Closed (own_message begun 0) (Some (reply.Held listing)) ∷ Gave (own_message begun 0) ∷ []
 
     only-listed : (other : ListingModel) → ListsOwn begun listed other → other ≡ listing
     only-listed other (zero, within, same) = cc
@@ -218,7 +218,7 @@ module _ (begun : Begun) where
     }
 
   orderly-started : (answer : Option Reply) (next : Course) → Treats next ≡ started_by (total begun) begun.device answer
-      → IsOrderly (Told (own_message begun 0) answer ∷ Gave (own_message begun 0) ∷ []) next (rank next.treatment)
+      → IsOrderly (Closed (own_message begun 0) answer ∷ Gave (own_message begun 0) ∷ []) next (rank next.treatment)
   orderly-started (Some (reply.Held listing)) next is = orderly-listed listing next (treat-begins (total begun) (take most_entries listing.entries) 0 [] next is)
   orderly-started other next is = absurd (cc)
 
@@ -241,14 +241,14 @@ module _ (begun : Begun) where
 
     module _ (past : List Step) (sent : Sent) (answer : Option Reply) (run : IsRun (IsNext begun) past) (opened : IsAnswered begun past sent) (next : Course) where
       abbrev Later : Type 0
-      Later = IsOrderly (Told sent answer ∷ past) next (rank next.treatment)
+      Later = IsOrderly (Closed sent answer ∷ past) next (rank next.treatment)
 
       after-start : Knows begun past Starts → Treats next ≡ started_by (total begun) begun.device answer → Later
       after-start (inl none) leads = absurd (cc (sym opened.one.opened ∙ ap opens none))
       after-start (inr one) leads =
           let same : sent ≡ own_message begun 0 = cc (opened.same, sym opened.one.opened ∙ ap opens one) in
-          subst (λ (first : Sent). IsOrderly (Told first answer ∷ past) next (rank next.treatment)) (sym same)
-          (subst (λ (steps : List Step). IsOrderly (Told (own_message begun 0) answer ∷ steps) next (rank next.treatment)) (sym one) (orderly-started answer next leads))
+          subst (λ (first : Sent). IsOrderly (Closed first answer ∷ past) next (rank next.treatment)) (sym same)
+          (subst (λ (steps : List Step). IsOrderly (Closed (own_message begun 0) answer ∷ steps) next (rank next.treatment)) (sym one) (orderly-started answer next leads))
 
       after-treat : (course : Course) → IsStatus begun past (Treats course) → IsOrderly past course (rank course.treatment + length (opens past)) → Leads begun (Treats course) answer (Treats next) → Later
       after-treat course is orderly leads =
@@ -277,9 +277,9 @@ module _ (begun : Begun) where
         subst (IsOrderly (Gave sent ∷ past) course) (omega (arith, closed))
         (subst (λ (one : Sent). IsOrderly (Gave one ∷ past) course (rank course.treatment + 1)) (sym same)
         (orderly-gave past (length (given past)) course (known begun past (Treats course) run.1 is).below before))
-    orderly (Told sent answer ∷ past) course run (before, was, leads) =
+    orderly (Closed sent answer ∷ past) course run (before, was, leads) =
         let opened = answered begun past sent run.1 run.0 in
-        subst (IsOrderly (Told sent answer ∷ past) course) (omega (arith, ap length opened.closed))
+        subst (IsOrderly (Closed sent answer ∷ past) course) (omega (arith, ap length opened.closed))
         (after-any past sent answer run.1 opened course (λ first is. orderly past first run.1 is) before was leads)
 
     -- ---- what is handed out is the first

@@ -5,7 +5,7 @@ use Rattle.std.proofs.lemmas.List.{take-append-drop}
 use Rattle.std.proofs.lemmas.List.Elements.{Contains-append_left, Contains-append_right}
 use Rattle.std.proofs.lemmas.Option.{slice_get-get_or}
 use Rattle.sw_hashdir.specs.declared.entry.Entry.{Entry}
-use Rattle.sw_hashpath.specs.Laws.{part_below}
+use Rattle.sw_hashpath.proofs.Laws.{part_below}
 use Rattle.sw_hashpath.specs.Place.{PlaceModel}
 use Rattle.sw_archive.specs.Archive.{ArchiveModel, archive_bytes}
 use Rattle.sw_archive.specs.Put.{put_fields}
@@ -15,7 +15,7 @@ use Rattle.sw_message.specs.Learnt.{AreKnown, KnowsReply, Learnt}
 use Rattle.sw_message.specs.Message.{IsMember}
 use Rattle.sw_message.specs.Running.{IsOf}
 use Rattle.sw_message.specs.Spoil.{IsArchiveOf}
-use Rattle.sw_message.specs.Transcript.{Gave, Hand, IsRun, Step, Told}
+use Rattle.sw_message.specs.Transcript.{Closed, Gave, Hand, IsRun, Step}
 use Rattle.sw_message.specs.Warrant.{IsOfPut, IsPrimaryOf, IsWarranted, ShowsAbove, ShowsDurable}
 use Rattle.sw_message.specs.declared.message.Msg.{Msg}
 use Rattle.sw_message.specs.declared.message.Msg.TheVariants as message
@@ -38,15 +38,15 @@ use Rattle.sw_recon.proofs.Known.{IsCourse, known}
 -- ---- what is known of replies
 
 module _ (begun : Begun) (learnt : Learnt) where
-  reply_known : (past : List Step) (sent : Sent) (given : Reply) → AreKnown begun.cluster learnt past → Contains past (Told sent (Some given)) → KnowsReply begun.cluster learnt sent.device sent.msg (Some given)
+  reply_known : (past : List Step) (sent : Sent) (given : Reply) → AreKnown begun.cluster learnt past → Contains past (Closed sent (Some given)) → KnowsReply begun.cluster learnt sent.device sent.msg (Some given)
   reply_known [] sent given known (k, within, is) = absurd (omega (arith, within))
   reply_known (Gave other ∷ past) sent given known (zero, within, is) = absurd (cc)
   reply_known (Gave other ∷ past) sent given known (suc k, within, is) = reply_known past sent given known (k, omega (arith, within), is)
-  reply_known (Told other answer ∷ past) sent given known (zero, within, is) =
+  reply_known (Closed other answer ∷ past) sent given known (zero, within, is) =
       let same_sent : other ≡ sent = cc in
       let same_answer : answer ≡ Some given = cc in
       subst (λ (one : Sent). KnowsReply begun.cluster learnt one.device one.msg (Some given)) same_sent (subst (KnowsReply begun.cluster learnt other.device other.msg) same_answer known.0)
-  reply_known (Told other answer ∷ past) sent given known (suc k, within, is) = reply_known past sent given known.1 (k, omega (arith, within), is)
+  reply_known (Closed other answer ∷ past) sent given known (suc k, within, is) = reply_known past sent given known.1 (k, omega (arith, within), is)
 
 shown-known : (stamp index : ℕ) (msg : Msg) (given : Reply) → ShowsDurable stamp index msg given ⊎ ShowsAbove stamp given → given ≢ reply.NoMemory
 shown-known stamp index msg given shows same = none msg (subst (λ (one : Reply). ShowsDurable stamp index msg one ⊎ ShowsAbove stamp one) same shows)

@@ -9,7 +9,7 @@ use Rattle.sw_ring.proofs.Among.{Contains-cons}
 use Rattle.sw_message.specs.Floors.{stands_above}
 use Rattle.sw_message.specs.Miss.{miss_of}
 use Rattle.sw_message.specs.Spoil.{IsArchiveOf}
-use Rattle.sw_message.specs.Transcript.{Gave, Hand, IsRun, Step, Told, given, opens}
+use Rattle.sw_message.specs.Transcript.{Closed, Gave, Hand, IsRun, Step, given, opens}
 use Rattle.sw_message.specs.declared.message.Msg.TheVariants as message
 use Rattle.sw_message.specs.declared.miss.Miss.{Miss}
 use Rattle.sw_message.specs.declared.miss.Miss.TheVariants as miss
@@ -114,7 +114,7 @@ module _ (begun : Begun) (past : List Step) (entry : Entry) (later : List Entry)
   sent treatment = treat_message begun ticket (at treatment)
 
   abbrev after : Treatment → Option Reply → List Step
-  after treatment answer = Told (sent treatment) answer ∷ past
+  after treatment answer = Closed (sent treatment) answer ∷ past
 
   here : (treatment : Treatment) (answer : Option Reply) → WasTold (after treatment answer) (sent treatment).device (sent treatment).msg answer
   here treatment answer = (ticket, (0, omega arith, refl))
@@ -129,7 +129,7 @@ module _ (begun : Begun) (past : List Step) (entry : Entry) (later : List Entry)
   module _ (treatment : Treatment) (answer : Option Reply) (known : IsCourse begun past (at treatment)) where
     kept-known : (cause : KeptCause) → WasKept begun (after treatment answer) entry cause → Knows begun (after treatment answer) (keeps (total begun) (at treatment) cause)
     kept-known cause was =
-        let now = course-later begun past (Told (sent treatment) answer) (at treatment) known in
+        let now = course-later begun past (Closed (sent treatment) answer) (at treatment) known in
         treat-knows begun (after treatment answer) now.listing now.own later (now.front ++ entry ∷ []) gone (kept ++ kept_as entry cause ∷ [])
         (now.are ∙ sym (append_assoc now.front (entry ∷ []) later)) (done-kept begun (after treatment answer) entry cause was now.front gone kept now.done)
 
@@ -139,13 +139,13 @@ module _ (begun : Begun) (past : List Step) (entry : Entry) (later : List Entry)
 
     removed-known : WasRemoved begun (after treatment answer) entry → Knows begun (after treatment answer) (removes (total begun) (at treatment))
     removed-known was =
-        let now = course-later begun past (Told (sent treatment) answer) (at treatment) known in
+        let now = course-later begun past (Closed (sent treatment) answer) (at treatment) known in
         treat-knows begun (after treatment answer) now.listing now.own later (now.front ++ entry ∷ []) (gone + 1) kept
         (now.are ∙ sym (append_assoc now.front (entry ∷ []) later)) (done-removed begun (after treatment answer) entry was now.front gone kept now.done)
 
     goes-known : (next : Treatment) → IsTreated begun (after treatment answer) entry next → Knows begun (after treatment answer) (goes_on (at treatment) next)
     goes-known next is =
-        let now = course-later begun past (Told (sent treatment) answer) (at treatment) known in
+        let now = course-later begun past (Closed (sent treatment) answer) (at treatment) known in
         record { listing = now.listing; own = now.own; front = now.front; are = now.are; done = now.done; below = now.below; treated = is }
 
   not-covered : (listing : ListingModel) → covers listing entry ≡ false → IsCoveredBy begun entry listing → ⊥
@@ -203,12 +203,12 @@ module _ (begun : Begun) (past : List Step) (entry : Entry) (later : List Entry)
       (record { below = known.below; msg = (sent Commit).msg; given = reply.Committed; told = here Commit (Some reply.Committed); place = refl; shows = inl (refl, refl) })
   committed-known (Some (reply.Superseded floor)) known = committed-floor floor (stands_above floor entry.stamp) refl known
   committed-known (Some reply.Missing) known = kept-known Commit (Some reply.Missing) known NoMark
-      (known.below, stored-later past (Told (sent Commit) (Some reply.Missing)) begun entry known.treated, here Commit (Some reply.Missing))
+      (known.below, stored-later past (Closed (sent Commit) (Some reply.Missing)) begun entry known.treated, here Commit (Some reply.Missing))
   committed-known (Some other) known = missed-known Commit (Some other) known (miss_of other) refl
 
   taken-known : (answer : Option Reply) → IsCourse begun past (at Remove) → Knows begun (after Remove answer) (removed (total begun) (at Remove) answer)
   taken-known None known = missed-known Remove None known miss.NoReply refl
-  taken-known (Some reply.Removed) known = removed-known Remove (Some reply.Removed) known (covered-later past (Told (sent Remove) (Some reply.Removed)) begun entry known.treated, here Remove (Some reply.Removed))
+  taken-known (Some reply.Removed) known = removed-known Remove (Some reply.Removed) known (covered-later past (Closed (sent Remove) (Some reply.Removed)) begun entry known.treated, here Remove (Some reply.Removed))
   taken-known (Some reply.Missing) known = missed-known Remove (Some reply.Missing) known miss.Missing refl
   taken-known (Some other) known = missed-known Remove (Some other) known (miss_of other) refl
 
@@ -223,25 +223,25 @@ module _ (begun : Begun) (past : List Step) (entry : Entry) (later : List Entry)
 -- ---- the own device
 
 module _ (begun : Begun) where
-  started-known : (answer : Option Reply) → Knows begun (Told (own_message begun 0) answer ∷ Gave (own_message begun 0) ∷ []) (started_by (total begun) begun.device answer)
+  started-known : (answer : Option Reply) → Knows begun (Closed (own_message begun 0) answer ∷ Gave (own_message begun 0) ∷ []) (started_by (total begun) begun.device answer)
   started-known (Some (reply.Held listing)) =
-      treat-knows begun (Told (own_message begun 0) (Some (reply.Held listing)) ∷ Gave (own_message begun 0) ∷ []) listing (0, omega arith, refl) (take most_entries listing.entries) [] 0 [] refl (refl, refl)
+      treat-knows begun (Closed (own_message begun 0) (Some (reply.Held listing)) ∷ Gave (own_message begun 0) ∷ []) listing (0, omega arith, refl) (take most_entries listing.entries) [] 0 [] refl (refl, refl)
   started-known other = record { own = refl; answer = other; told = (0, omega arith, refl); missed = λ listing is. absurd (cc) }
 
   -- ---- each transcript
 
   after-told : (past : List Step) (sent : Sent) (answer : Option Reply) (before later : Status) → IsAnswered begun past sent → IsStatus begun past before → Knows begun past before → Leads begun before answer later
-      → Knows begun (Told sent answer ∷ past) later
+      → Knows begun (Closed sent answer ∷ past) later
   after-told past sent answer Starts later opened is (inl none) leads = absurd (cc (sym opened.one.opened ∙ ap opens none))
   after-told past sent answer Starts later opened is (inr one) leads =
       let same : sent ≡ own_message begun 0 = cc (opened.same, sym opened.one.opened ∙ ap opens one) in
-      subst (λ (one : Sent). Knows begun (Told one answer ∷ past) later) (sym same)
-      (subst (λ (steps : List Step). Knows begun (Told (own_message begun 0) answer ∷ steps) later) (sym one) (subst (Knows begun (Told (own_message begun 0) answer ∷ Gave (own_message begun 0) ∷ [])) (sym leads) (started-known answer)))
+      subst (λ (one : Sent). Knows begun (Closed one answer ∷ past) later) (sym same)
+      (subst (λ (steps : List Step). Knows begun (Closed (own_message begun 0) answer ∷ steps) later) (sym one) (subst (Knows begun (Closed (own_message begun 0) answer ∷ Gave (own_message begun 0) ∷ [])) (sym leads) (started-known answer)))
   after-told past sent answer (Treats course) later opened is known leads =
       let next = opened.one.next ∙ ap (next_at begun opened.one.number) (one_status begun past opened.one.status (Treats course) opened.one.is is) in
       let same : sent ≡ treat_message begun opened.one.number course = cc (opened.same, next) in
-      subst (λ (one : Sent). Knows begun (Told one answer ∷ past) later) (sym same)
-      (subst (Knows begun (Told (treat_message begun opened.one.number course) answer ∷ past)) (sym leads.2)
+      subst (λ (one : Sent). Knows begun (Closed one answer ∷ past) later) (sym same)
+      (subst (Knows begun (Closed (treat_message begun opened.one.number course) answer ∷ past)) (sym leads.2)
       (treated-known begun past course.entry course.later course.removed course.kept opened.one.number course.treatment answer leads.0 leads.1 known))
   after-told past sent answer (Ends end) later opened is known leads = absurd leads
 
@@ -257,4 +257,4 @@ module _ (begun : Begun) where
   pub known : (past : List Step) (status : Status) → IsRun (IsNext begun) past → IsStatus begun past status → Knows begun past status
   known [] at run is = subst (Knows begun []) (sym is) (inl refl)
   known (Gave sent ∷ past) at run is = after-gave past sent at (handed begun past sent run.0) is (known past at run.1 is)
-  known (Told sent answer ∷ past) at run is = after-told past sent answer is.0 at (answered begun past sent run.1 run.0) is.1 (known past is.0 run.1 is.1) is.2
+  known (Closed sent answer ∷ past) at run is = after-told past sent answer is.0 at (answered begun past sent run.1 run.0) is.1 (known past is.0 run.1 is.1) is.2

@@ -6,7 +6,7 @@ use Rattle.std.proofs.lemmas.Option.{none-some, same_Some}
 use Rattle.sw_hashdir.specs.declared.entry.Entry.{Entry}
 use Rattle.sw_hashpath.specs.Place.{PlaceModel}
 use Rattle.sw_ring.specs.Cluster.{ClusterModel}
-use Rattle.sw_message.specs.Transcript.{Gave, Hand, IsRun, Next, Step, Told, given, is_empty, is_not, is_waiting, open_at, opens}
+use Rattle.sw_message.specs.Transcript.{Closed, Gave, Hand, IsRun, Next, Step, given, is_empty, is_not, is_waiting, open_at, opens}
 use Rattle.sw_message.specs.declared.reply.Reply.{Reply}
 use Rattle.sw_message.specs.declared.reply.Reply.TheVariants as reply
 use Rattle.sw_message.specs.declared.sent.Sent.{Sent}
@@ -43,7 +43,7 @@ module _ (begun : Begun) where
   pub one_status : (past : List Step) (a b : Status) → IsStatus begun past a → IsStatus begun past b → a ≡ b
   one_status [] a b x y = x ∙ sym y
   one_status (Gave sent ∷ past) a b x y = one_status past a b x y
-  one_status (Told sent answer ∷ past) a b x y =
+  one_status (Closed sent answer ∷ past) a b x y =
       one_lead x.0 answer a b x.2 (subst (λ (before : Status). Leads begun before answer b) (one_status past y.0 x.0 y.1 x.1) y.2)
 
   -- so one thing comes next
@@ -106,7 +106,7 @@ module _ (begun : Begun) where
   at_most_one (Gave sent ∷ past) run =
       let is = handed past sent run.0 in
       inr (record { sent = sent; opened = ap (λ these. sent ∷ these) is.none_open; number = length (given past); status = is.status; is = is.is; next = is.next })
-  at_most_one (Told sent answer ∷ past) run = inl (answered_by past sent (at_most_one past run.1) run.0).closed
+  at_most_one (Closed sent answer ∷ past) run = inl (answered_by past sent (at_most_one past run.1) run.0).closed
 
   -- an answer is for the one open message
   pub answered : (past : List Step) (sent : Sent) → IsRun (IsNext begun) past → open_at sent.ticket past ≡ Some sent → IsAnswered past sent

@@ -6,7 +6,7 @@ use Rattle.sw_message.specs.Floors.{stands_above}
 use Rattle.sw_message.specs.Message.{place_in}
 use Rattle.sw_message.specs.Miss.{miss_of}
 use Rattle.sw_message.specs.Spoil.{IsArchiveOf, IsSpoil}
-use Rattle.sw_message.specs.Transcript.{Step, Told}
+use Rattle.sw_message.specs.Transcript.{Closed, Step}
 use Rattle.sw_message.specs.Warrant.{ShowsAbove, ShowsDurable}
 use Rattle.sw_message.specs.declared.message.Msg.{Msg}
 use Rattle.sw_message.specs.declared.message.Msg.TheVariants as message
@@ -23,11 +23,11 @@ use Rattle.sw_recon.specs.declared.kept.KeptEntry.{KeptEntry}
 
 -- a device answered a message, or it was given up
 abbrev pub WasTold : List Step → (device : ℕ) → Msg → Option Reply → Type 0
-WasTold past device msg answer = (ticket : ℕ) × Contains past (Told (record { ticket = ticket; device = device; msg = msg }) answer)
+WasTold past device msg answer = (ticket : ℕ) × Contains past (Closed (record { ticket = ticket; device = device; msg = msg }) answer)
 
 -- the own device answered its first question with this listing
 abbrev pub ListsOwn : Begun → List Step → ListingModel → Type 0
-ListsOwn begun past listing = Contains past (Told (own_message begun 0) (Some (reply.Held listing)))
+ListsOwn begun past listing = Contains past (Closed (own_message begun 0) (Some (reply.Held listing)))
 
 -- ---- entries
 
@@ -124,5 +124,5 @@ pub record IsDone (begun : Begun) (past : List Step) (removed : ℕ) (kept : Lis
 pub record IsUnanswered (begun : Begun) (past : List Step) (device : ℕ) : Type 0 where
   pub own : device ≡ begun.device
   pub answer : Option Reply
-  pub told : Contains past (Told (own_message begun 0) answer)
+  pub told : Contains past (Closed (own_message begun 0) answer)
   pub missed : (listing : ListingModel) → answer ≡ Some (reply.Held listing) → ⊥

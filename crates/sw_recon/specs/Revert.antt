@@ -9,7 +9,7 @@ use Rattle.sw_message.specs.Floors.{stands_above}
 use Rattle.sw_message.specs.Message.{IsMember, is_primary}
 use Rattle.sw_message.specs.Miss.{miss_of}
 use Rattle.sw_message.specs.Spoil.{IsArchiveOf, IsSpoil}
-use Rattle.sw_message.specs.Transcript.{Gave, Hand, Next, Over, Step, Told, Wait, given, is_waiting}
+use Rattle.sw_message.specs.Transcript.{Closed, Gave, Hand, Next, Over, Step, Wait, given, is_waiting}
 use Rattle.sw_message.specs.declared.message.Msg.{Msg}
 use Rattle.sw_message.specs.declared.message.Msg.TheVariants as message
 use Rattle.sw_message.specs.declared.miss.Miss.TheVariants as miss
@@ -161,7 +161,7 @@ Leads begun (Ends end) answer next = ⊥
 abbrev pub IsStatus : Begun → List Step → Status → Type 0
 IsStatus begun [] status = status ≡ Starts
 IsStatus begun (Gave sent ∷ past) status = IsStatus begun past status
-IsStatus begun (Told sent answer ∷ past) status = (before : Status) × IsStatus begun past before × Leads begun before answer status
+IsStatus begun (Closed sent answer ∷ past) status = (before : Status) × IsStatus begun past before × Leads begun before answer status
 
 -- ---- the machine
 

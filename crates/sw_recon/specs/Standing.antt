@@ -5,7 +5,7 @@ use Rattle.sw_ring.specs.Cluster.{ClusterModel}
 use Rattle.sw_message.specs.Learnt.{AreKnown, Learnt}
 use Rattle.sw_message.specs.Running.{IsOf}
 use Rattle.sw_message.specs.Tickets.{AreTickets}
-use Rattle.sw_message.specs.Transcript.{Hand, IsRun, Step, Told, opens}
+use Rattle.sw_message.specs.Transcript.{Closed, Hand, IsRun, Step, opens}
 use Rattle.sw_message.specs.Warrant.{IsWarranted}
 use Rattle.sw_message.specs.declared.reply.Reply.{Reply}
 use Rattle.sw_message.specs.declared.sent.Sent.{Sent}
@@ -53,7 +53,7 @@ AreOpen true opened = (sent : Sent) × (opened ≡ sent ∷ [])
 abbrev pub ReadsBy : Bool → Option (Option Reply) → (seen : Status) → (past read : List Step) → Status → Type 0
 ReadsBy false None seen past read reached = (read ≡ past) × (seen ≡ reached)
 ReadsBy true None seen past read reached = (read ≡ past) × (seen ≡ handed reached)
-ReadsBy false (Some answer) seen past read reached = ((sent : Sent) × (past ≡ Told sent answer ∷ read)) × (seen ≡ handed reached)
+ReadsBy false (Some answer) seen past read reached = ((sent : Sent) × (past ≡ Closed sent answer ∷ read)) × (seen ≡ handed reached)
 ReadsBy true (Some answer) seen past read reached = ⊥
 
 abbrev pub IsReading : RevertModel → List Step → (read : List Step) → Status → Type 0

@@ -3,7 +3,7 @@
 ghost use Rattle.std.specs.Prelude.{◌≡◌, ◌∷◌, ◌+◌, ◌<◌, ◌^◌, [], if◌then◌else◌, false, List, None, Some, IfOk, IfSome, MatchOption, OnErr, OnOk, is_some, length, true};
 ghost use Rattle.sw_hashpath.specs.Place.{IsPlace};
 ghost use Rattle.sw_message.specs.Message.{IsMember, is_primary};
-ghost use Rattle.sw_message.specs.Transcript.{Gave, Over, Step, told};
+ghost use Rattle.sw_message.specs.Transcript.{Gave, Over, Step, after_answer};
 ghost use Rattle.sw_recon.specs.Revert.{Begun, IsChecked, IsEnd, IsNext, Leads, started_by};
 ghost use Rattle.sw_recon.specs.Standing.{MayHand, Stands, ends, has_ended};
 
@@ -17,9 +17,9 @@ use std::marker::Model;
 use std::mem::replace;
 use sw_hashdir::Entry;
 use sw_hashpath::Place;
-use sw_message::{Msg, Reply, Sent, Spoil, Tickets, check_asked};
+use sw_message::{Msg, Reply, Sent, Spoil, Tickets, check_asked, total_of};
 use sw_ring::Cluster;
-use sw_types::{NoMemory, Policy};
+use sw_types::NoMemory;
 
 /// A revert. Each entry of its device, a handoff of the place, goes to the primary of its index, and is then removed, or is kept, one
 /// after the other: at most 65,536 in one job.
@@ -96,7 +96,7 @@ impl<'a> RevertJob<'a> {
 
     // Takes the answer to a ticket, or that there is none. One that is not open is ignored. It takes no memory.
     pub(crate) fn answer(&mut self, ticket: u64, answer: Option<Reply>)
-        ensures stands { (begun : Begun) (past : List Step) → Stands self.old begun past → Stands self.new begun (told past ticket answer) }
+        ensures stands { (begun : Begun) (past : List Step) → Stands self.old begun past → Stands self.new begun (after_answer past ticket answer) }
         ensures status { self.new.status ≡ self.old.status }
         ensures count { length self.new.tickets ≡ length self.old.tickets }
     {
@@ -200,14 +200,6 @@ fn read_answer(
         *status = replace(status, Status::Starts).after(total, answer, spoil);
     }
     Ok(())
-}
-
-// How many indices there are.
-fn total_of(policy: &Policy) -> u32
-    ensures { result ≡ policy.now.k + policy.now.m }
-{
-    prove!(policy.segment() <= Policy::GREATEST_SEGMENT);
-    policy.k() + policy.m()
 }
 
 // How far a revert is once its own device has answered.

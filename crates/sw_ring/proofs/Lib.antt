@@ -3,6 +3,7 @@ pub mod Earlier
 pub mod ItemByItem
 pub mod NoFault
 pub mod Partition
+pub mod Positions
 pub mod Roles
 pub mod Soundness
 pub mod Witness

@@ -7,7 +7,7 @@ ghost use Rattle.sw_types.specs.Name.{NameModel, path_of};
 ghost use Rattle.sw_ring.specs.Cluster.{IsCluster, KeepsRules, column_of, handoffs_of, place_of_name, place_of_path, ring_of};
 ghost use Rattle.sw_ring.specs.Members.{RingMembers};
 ghost use Rattle.sw_ring.specs.Reading.{members_seen, policy_numbers};
-ghost use Rattle.sw_ring.specs.Ring.{ring_fault};
+ghost use Rattle.sw_ring.specs.Ring.{is_among, ring_fault};
 
 use crate::columns::{absent, device_at, index_in};
 use crate::device::Device;
@@ -124,6 +124,14 @@ impl Cluster {
     {
         let index = index_in(&self.rows, part as usize, device)?;
         Some(index as u32)
+    }
+
+    /// Whether the device is a primary of a partition: it keeps the fragments of one of its indices.
+    pub fn is_primary(&self, part: u32, device: u16) -> bool
+        requires { part < 2 ^ self.now.part_power }
+        ensures { result ≡ is_among (column_of self.now part) device }
+    {
+        self.index_of(part, device).is_some()
     }
 
     /// The devices that are no primaries of a partition, in ascending order.

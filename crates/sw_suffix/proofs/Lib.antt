@@ -3,6 +3,7 @@ pub mod Gathered
 pub mod Hashed
 pub mod Keeping
 pub mod Keys
+pub mod Laws
 pub mod Lists
 pub mod Ranges
 pub mod Texts

@@ -6,14 +6,14 @@ use Rattle.std.proofs.lemmas.Bool.{cases_Bool, cases_lt, eq-eqb, eqb-true, true�
 use Rattle.std.proofs.lemmas.List.Elements.{All-contains, All-cons, All-head, All-nil, All-rest, All-weaker}
 use Rattle.std.proofs.lemmas.List.Sums.{sum_by-cons, sum_by_push}
 use Rattle.std.proofs.lemmas.Option.{none-some, same_Some}
-use Rattle.sw_hashpath.specs.Laws.{part_below}
+use Rattle.sw_hashpath.proofs.Laws.{part_below}
 use Rattle.sw_hashdir.specs.Listing.{ListingModel}
 use Rattle.sw_ring.specs.Cluster.{column_of, ids_of}
 use Rattle.sw_ring.specs.Ring.{is_among}
 use Rattle.sw_ring.proofs.Among.{Contains-cons, Contains-from_among}
 use Rattle.sw_message.specs.Message.{IsMember, is_primary}
 use Rattle.sw_message.specs.Miss.{miss_of}
-use Rattle.sw_message.specs.Transcript.{Gave, IsRun, Step, Told, given, opens}
+use Rattle.sw_message.specs.Transcript.{Closed, Gave, IsRun, Step, given, opens}
 use Rattle.sw_message.specs.declared.message.Msg.{Msg}
 use Rattle.sw_message.specs.declared.message.Msg.TheVariants as message
 use Rattle.sw_message.specs.declared.miss.Miss.{Miss}
@@ -21,8 +21,9 @@ use Rattle.sw_message.specs.declared.miss.Miss.TheVariants as miss
 use Rattle.sw_message.specs.declared.reply.Reply.{Reply}
 use Rattle.sw_message.specs.declared.reply.Reply.TheVariants as reply
 use Rattle.sw_message.specs.declared.sent.Sent.{Sent}
-use Rattle.sw_quorum.specs.Places.{counted-among, device_once, handoffs_apart, handoffs_known, one_if, some-counted}
-use Rattle.sw_quorum.specs.Transcripts.{closed, sums-keep}
+use Rattle.sw_quorum.proofs.Places.{counted-among, device_once, handoffs_apart, handoffs_known, one_if, some-counted}
+use Rattle.sw_quorum.proofs.Transcripts.{sums-keep}
+use Rattle.sw_quorum.specs.Transcripts.{closed}
 use Rattle.sw_gather.proofs.Lists.{first_or_later, here, in_filter, none_in}
 use Rattle.sw_sync.specs.Answers.{AllAnswered, HandoffsAnswered, WasAsked, WasListed}
 use Rattle.sw_sync.specs.Parts.{Heard}
@@ -114,15 +115,15 @@ module _ (begun : Begun) (past : List Step) (heard : Heard) (rest : List ℕ) (s
   heard-more (Some (reply.Held listing)) device = omega (arith, sum_by_push (λ (one : ℕ × ListingModel). cond (of_device device one) 1 0) heard.lists (sent.device, listing))
   heard-more (Some other) device = omega (arith, sum_by_push (λ (one : ℕ × Miss). cond (of_device device one) 1 0) heard.misses (sent.device, miss_of other))
 
-  pub asking-told : (due : List Errand) (answer : Option Reply) → IsQuestion begun sent → Asking begun past heard due rest → Asking begun (Told sent answer ∷ past) (heard_from heard sent.device answer) due rest
+  pub asking-told : (due : List Errand) (answer : Option Reply) → IsQuestion begun sent → Asking begun past heard due rest → Asking begun (Closed sent answer ∷ past) (heard_from heard sent.device answer) due rest
   asking-told due answer is asking = record {
-    survey = subst (λ (one : Msg). Survey begun (Told (record { ticket = sent.ticket; device = sent.device; msg = one }) answer ∷ past) (heard_from heard sent.device answer)) (sym is)
+    survey = subst (λ (one : Msg). Survey begun (Closed (record { ticket = sent.ticket; device = sent.device; msg = one }) answer ∷ past) (heard_from heard sent.device answer)) (sym is)
         (survey-asked begun past heard asking.survey sent.ticket sent.device answer);
     questions = asking.questions;
     left = asking.left;
     due_is = asking.due_is;
     counted = asking.counted;
-    ordered = elim asking.ordered [ inl answered ↦ inl (handoffs-later begun past (Told sent answer) answered) | inr left ↦ inr left ];
+    ordered = elim asking.ordered [ inl answered ↦ inl (handoffs-later begun past (Closed sent answer) answered) | inr left ↦ inr left ];
     heard_as = λ device. omega (arith, asking.heard_as device, heard-more answer device, sum_by-cons (λ (one : Sent). cond (to device one) 1 0) sent (closed past));
   }
 

@@ -7,13 +7,13 @@ use Rattle.std.proofs.lemmas.List.Elements.{All-contains_itself, All-filter, All
 use Rattle.std.proofs.lemmas.List.Kept.{AllPairs-filter}
 use Rattle.sw_ring.proofs.Among.{Contains-from_among, among-from_Contains}
 use Rattle.sw_message.specs.Floors.{tombstone_floor}
-use Rattle.sw_message.specs.Transcript.{Gave, IsRun, Step, Told, given, opens}
+use Rattle.sw_message.specs.Transcript.{Closed, Gave, IsRun, Step, given, opens}
 use Rattle.sw_message.specs.declared.message.Msg.{Msg}
 use Rattle.sw_message.specs.declared.message.Msg.TheVariants as message
 use Rattle.sw_message.specs.declared.miss.Miss.{Miss}
 use Rattle.sw_message.specs.declared.reply.Reply.{Reply}
 use Rattle.sw_message.specs.declared.sent.Sent.{Sent}
-use Rattle.sw_quorum.specs.Places.{apart-from_once}
+use Rattle.sw_quorum.proofs.Places.{apart-from_once}
 use Rattle.sw_quorum.specs.Transcripts.{closed}
 use Rattle.sw_quorum.specs.Verdicts.{delete_verdict}
 use Rattle.sw_gather.proofs.Lists.{from_filter, in_filter, in_map}
@@ -45,7 +45,7 @@ module _ (begun : Begun) (past : List Step) (run : IsRun (IsNext begun) past) (q
       by_closed : (past : List Step) → All (IsQuestion begun) (closed past) → count_told test past ≡ 0
       by_closed [] all = refl
       by_closed (Gave sent ∷ past) all = by_closed past all
-      by_closed (Told sent answer ∷ past) all =
+      by_closed (Closed sent answer ∷ past) all =
           let is : test sent.msg answer ≡ false = ap (λ (one : Msg). test one answer) (All-head (IsQuestion begun) sent (closed past) all) ∙ never answer in
           omega (arith, by_closed past (All-tail (IsQuestion begun) sent (closed past) all), ap {B = ℕ} (λ b. if b then 1 else 0) is)
 
@@ -137,10 +137,10 @@ module _ (begun : Begun) (past : List Step) (burial : Burial) (due : List Errand
 
   -- and it answers
   pub burying-told : (device ticket : ℕ) (answer : Option Reply) → ToBury begun burying.heard burial.stamp (Delete device) → IsRun (IsNext begun) past → IsUntold past (Delete device)
-      → Burying begun (Told (record { ticket = ticket; device = device; msg = message.Delete begun.place burial.stamp }) answer ∷ past) (buried burial device (delete_verdict burial.stamp answer)) (due ++ [])
+      → Burying begun (Closed (record { ticket = ticket; device = device; msg = message.Delete begun.place burial.stamp }) answer ∷ past) (buried burial device (delete_verdict burial.stamp answer)) (due ++ [])
   burying-told device ticket answer todo run untold = record {
     heard = burying.heard;
-    surveyed = surveyed-later begun past (Told sent answer) burying.heard (no-question begun sent answer (λ same. cc)) burying.surveyed;
+    surveyed = surveyed-later begun past (Closed sent answer) burying.heard (no-question begun sent answer (λ same. cc)) burying.surveyed;
     own = burying.own;
     does = does-told begun burial.stamp (ToBury begun burying.heard burial.stamp) (ToBury begun burying.heard burial.stamp) past due burying.does (λ one is. is) sent answer [] (All-nil (ToBury begun burying.heard burial.stamp)) (λ one is. inl is);
     once = once-told begun burial.stamp (ToBury begun burying.heard burial.stamp) (ToBury begun burying.heard burial.stamp) past due burying.once (λ one is. is) sent answer [] burying.does.sought (λ device is. is)
@@ -201,7 +201,7 @@ was-buried begun past burial run none burying =
       each = λ device listing primary listed. elim (cases_Bool (lists_below floor (listing_of burying.heard.lists device))) [
         | inl below ↦
             let sent = does-over begun burial.stamp (ToBury begun burying.heard burial.stamp) past run none burying.does (Delete device) (Contains-from_among (primaries begun) device primary, below) in
-            inr (sent.1.0, (sent.2.0, subst (λ (one : Sent). Contains past (Told one sent.1.0)) sent.2.2 sent.1.1))
+            inr (sent.1.0, (sent.2.0, subst (λ (one : Sent). Contains past (Closed one sent.1.0)) sent.2.2 sent.1.1))
         | inr not_below ↦ inl (lists-same begun past burying.heard burying.surveyed floor device listing own listed not_below)
       ];
       no_entries = (refl, refl);

@@ -7,11 +7,11 @@ use Rattle.std.proofs.lemmas.List.Elements.{All-cons, All-filter, All-nil, All-w
 use Rattle.std.proofs.lemmas.Option.{same_Some}
 use Rattle.sw_hashpath.specs.Place.{PlaceModel}
 use Rattle.sw_ring.specs.Cluster.{ClusterModel}
-use Rattle.sw_message.specs.Transcript.{Gave, Hand, IsRun, Over, Step, Told, Wait, is_not, is_waiting, open_at, opens, told}
+use Rattle.sw_message.specs.Transcript.{Closed, Gave, Hand, IsRun, Over, Step, Wait, after_answer, is_not, is_waiting, open_at, opens}
 use Rattle.sw_message.specs.declared.message.Msg.{Msg}
 use Rattle.sw_message.specs.declared.reply.Reply.{Reply}
 use Rattle.sw_message.specs.declared.sent.Sent.{Sent}
-use Rattle.sw_quorum.specs.Transcripts.{found, run-told, some_found, told-ignored, told-open, waiting-some}
+use Rattle.sw_quorum.proofs.Transcripts.{found, run-told, some_found, told-ignored, told-open, waiting-some}
 use Rattle.sw_gather.specs.Mailbox.{GoesWith, MailboxModel, Unread}
 use Rattle.sw_gather.proofs.Lists.{slice_get_before, slice_get_last}
 use Rattle.sw_gather.proofs.Mailboxes.{Taken}
@@ -32,20 +32,20 @@ use Rattle.sw_sync.proofs.Settled.{end_of, settled_end, settled_stays, settled_w
 
 -- one answer more is to be read
 lead-append : (unread : List (Unread Errand)) (read past : List Step) (errand : Errand) (answer : Option Reply) (sent : Sent) → IsAbout errand sent → Lead unread read past
-    → Lead (unread ++ (errand, answer) ∷ []) read (Told sent answer ∷ past)
-lead-append [] read past errand answer sent is leads = (sent, is, ap (λ path. Told sent answer ∷ path) leads)
-lead-append (one ∷ later) read past errand answer sent is leads = (leads.0, leads.1, lead-append later (Told leads.0 one.1 ∷ read) past errand answer sent is leads.2)
+    → Lead (unread ++ (errand, answer) ∷ []) read (Closed sent answer ∷ past)
+lead-append [] read past errand answer sent is leads = (sent, is, ap (λ path. Closed sent answer ∷ path) leads)
+lead-append (one ∷ later) read past errand answer sent is leads = (leads.0, leads.1, lead-append later (Closed leads.0 one.1 ∷ read) past errand answer sent is leads.2)
 
 -- the transcript up to where answers were read is one of the machine
 lead-run : (begun : Begun) (unread : List (Unread Errand)) (read past : List Step) → Lead unread read past → IsRun (IsNext begun) past → IsRun (IsNext begun) read
 lead-run begun [] read past leads run = subst (IsRun (IsNext begun)) leads run
-lead-run begun (one ∷ later) read past leads run = (lead-run begun later (Told leads.0 one.1 ∷ read) past leads.2 run).1
+lead-run begun (one ∷ later) read past leads run = (lead-run begun later (Closed leads.0 one.1 ∷ read) past leads.2 run).1
 
 -- where an answer is to be read, its message was open
 lead-waits : (begun : Begun) (one : Unread Errand) (later : List (Unread Errand)) (read past : List Step) → Lead (one ∷ later) read past → IsRun (IsNext begun) past → is_waiting read ≡ true
 lead-waits begun one later read past leads run =
     let sent = leads.0 in
-    waiting-some read (some_found sent.ticket (opens read) sent (lead-run begun later (Told sent one.1 ∷ read) past leads.2 run).0)
+    waiting-some read (some_found sent.ticket (opens read) sent (lead-run begun later (Closed sent one.1 ∷ read) past leads.2 run).0)
 
 -- where none is open, all were read
 lead-closed : (begun : Begun) (unread : List (Unread Errand)) (read past : List Step) → Lead unread read past → IsRun (IsNext begun) past → is_waiting read ≡ false → past ≡ read
@@ -137,7 +137,7 @@ module _ (job : SyncModel) (begun : Begun) (past : List Step) (stands : Stands j
     }
 
     taken : (ticket : ℕ) (answer : Option Reply) (sent : Sent) (errand : Errand) → open_at ticket past ≡ Some sent → slice_get job.mailbox.errands sent.ticket ≡ Some errand
-        → mailbox.unread ≡ job.mailbox.unread ++ (errand, answer) ∷ [] → GoesWith mailbox (Told sent answer ∷ past) → Stands (record job { mailbox = mailbox }) begun (Told sent answer ∷ past)
+        → mailbox.unread ≡ job.mailbox.unread ++ (errand, answer) ∷ [] → GoesWith mailbox (Closed sent answer ∷ past) → Stands (record job { mailbox = mailbox }) begun (Closed sent answer ∷ past)
     taken ticket answer sent errand is at more goes =
         let own = found (IsOpen job.mailbox.errands) ticket (opens past) sent is stands.opened in
         let this : IsAbout errand sent = subst (λ one. IsAbout one sent) (same_Some own.0.errand errand (sym own.0.at ∙ at)) own.0.about in
@@ -148,18 +148,18 @@ module _ (job : SyncModel) (begun : Begun) (past : List Step) (stands : Stands j
           device_is = stands.device_is;
           place_is = stands.place_is;
           goes_with = goes;
-          opened = subst (λ errands. All (IsOpen errands) (opens (Told sent answer ∷ past))) (sym same_errands)
+          opened = subst (λ errands. All (IsOpen errands) (opens (Closed sent answer ∷ past))) (sym same_errands)
               (All-filter (is_not sent.ticket) (IsOpen job.mailbox.errands) (opens past) stands.opened);
           read = stands.read;
           state = stands.state;
           is = stands.is;
-          leads = subst (λ unread. Lead unread stands.read (Told sent answer ∷ past)) (sym more) (lead-append job.mailbox.unread stands.read past errand answer sent this stands.leads);
+          leads = subst (λ unread. Lead unread stands.read (Closed sent answer ∷ past)) (sym more) (lead-append job.mailbox.unread stands.read past errand answer sent this stands.leads);
           seen = stands.seen;
         }
 
     told_at : (ticket : ℕ) (answer : Option Reply) (opened : Option Sent) → open_at ticket past ≡ opened
         → MatchOption opened (mailbox.unread ≡ job.mailbox.unread) (λ sent. (one : Errand) × (slice_get job.mailbox.errands sent.ticket ≡ Some one) × (mailbox.unread ≡ job.mailbox.unread ++ (one, answer) ∷ []))
-        → GoesWith mailbox (told past ticket answer) → Stands (record job { mailbox = mailbox }) begun (told past ticket answer)
+        → GoesWith mailbox (after_answer past ticket answer) → Stands (record job { mailbox = mailbox }) begun (after_answer past ticket answer)
     told_at ticket answer None is same goes =
         let path = told-ignored past ticket answer is in
         subst (Stands (record job { mailbox = mailbox }) begun) (sym path) (ignored (subst (GoesWith mailbox) path goes) same)
@@ -167,8 +167,8 @@ module _ (job : SyncModel) (begun : Begun) (past : List Step) (stands : Stands j
         let path = told-open past ticket answer sent is in
         subst (Stands (record job { mailbox = mailbox }) begun) (sym path) (taken ticket answer sent more.0 is more.1 more.2 (subst (GoesWith mailbox) path goes))
 
-    pub stands_told : (ticket : ℕ) (answer : Option Reply) → Taken job.mailbox past ticket answer mailbox.unread → GoesWith mailbox (told past ticket answer)
-        → Stands (record job { mailbox = mailbox }) begun (told past ticket answer)
+    pub stands_told : (ticket : ℕ) (answer : Option Reply) → Taken job.mailbox past ticket answer mailbox.unread → GoesWith mailbox (after_answer past ticket answer)
+        → Stands (record job { mailbox = mailbox }) begun (after_answer past ticket answer)
     stands_told ticket answer is goes = told_at ticket answer (open_at ticket past) refl is goes
 
   -- ---- the first answer is read
@@ -178,7 +178,7 @@ module _ (job : SyncModel) (begun : Begun) (past : List Step) (stands : Stands j
   stands_read errand mailbox state took =
       let leads = subst (λ unread. Lead unread stands.read past) took.first stands.leads in
       let sent = leads.0 in
-      let path = Told sent took.answer ∷ stands.read in
+      let path = Closed sent took.answer ∷ stands.read in
       let waits = lead-waits begun (errand, took.answer) took.later stands.read past leads stands.run in
       let was : job.state ≡ stands.state = sym (settled_waiting begun job.state) ∙ ap (λ waiting. settled begun waiting job.state) (sym waits) ∙ stands.seen in
       let led = subst (λ place. LeadsTo begun.cluster place took.answer errand job.state state) stands.place_is

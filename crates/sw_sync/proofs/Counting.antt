@@ -6,7 +6,7 @@ use Rattle.std.proofs.lemmas.List.{get_or_default}
 use Rattle.std.proofs.lemmas.List.Elements.{All-contains, All-map}
 use Rattle.std.proofs.lemmas.List.Kept.{AllPairs-cons}
 use Rattle.std.proofs.lemmas.List.Sums.{sum_by-append, sum_by-cons}
-use Rattle.sw_quorum.specs.Places.{one_if, some-passing}
+use Rattle.sw_quorum.proofs.Places.{one_if, some-passing}
 
 module _ {A : Type 0} (test : A → Bool) where
   pub none-passing : (xs : List A) → ((x : A) → Contains xs x → test x ≡ true → ⊥) → count_by test xs ≡ 0

@@ -8,7 +8,7 @@ use Rattle.sw_hashpath.specs.Place.{PlaceModel}
 use Rattle.sw_types.proofs.Policies.{bounds}
 use Rattle.sw_ring.specs.Cluster.{ClusterModel, KeepsRules}
 use Rattle.sw_ring.proofs.Roles.{column_length}
-use Rattle.sw_message.specs.Transcript.{Gave, Step, Told, is_empty as is_none, is_not, is_waiting, opens}
+use Rattle.sw_message.specs.Transcript.{Closed, Gave, Step, is_empty as is_none, is_not, is_waiting, opens}
 use Rattle.sw_message.specs.declared.reply.Reply.{Reply}
 use Rattle.sw_message.specs.declared.sent.Sent.{Sent}
 use Rattle.sw_sync.specs.Standing.{ends}
@@ -106,10 +106,10 @@ module _ (begun : Begun) (rules : KeepsRules begun.cluster) where
   )
 
   after_told : (past : List Step) (before after : State) (sent : Sent) (answer : Option Reply) → IsOver (is_waiting past) before → Takes begun before sent answer after
-      → IsOver (is_waiting (Told sent answer ∷ past)) (settled begun (is_waiting (Told sent answer ∷ past)) after)
-  after_told past before after sent answer is takes = settled_over (is_waiting (Told sent answer ∷ past)) after ended
+      → IsOver (is_waiting (Closed sent answer ∷ past)) (settled begun (is_waiting (Closed sent answer ∷ past)) after)
+  after_told past before after sent answer is takes = settled_over (is_waiting (Closed sent answer ∷ past)) after ended
     where
-      ended : ends after.stage ≡ true → (is_waiting (Told sent answer ∷ past) ≡ false) × (after.due ≡ [])
+      ended : ends after.stage ≡ true → (is_waiting (Closed sent answer ∷ past) ≡ false) × (after.due ≡ [])
       ended over =
           let same = hears_ends begun.cluster begun.place before.stage takes.errand answer takes.stage takes.more takes.hears in
           let was : ends before.stage ≡ true = sym same ∙ ap (λ (one : State). ends one.stage) (sym takes.after_is) ∙ over in
@@ -123,8 +123,8 @@ module _ (begun : Begun) (rules : KeepsRules begun.cluster) where
   is_over : (past : List Step) (state : State) → IsState begun past state → IsOver (is_waiting past) state
   is_over [] state is = subst (IsOver false) (sym is) (settled_over false (beginning begun) (λ over. absurd (cc)))
   is_over (Gave sent ∷ past) state is = after_gave past is.0 state sent (is_over past is.0 is.1) is.2
-  is_over (Told sent answer ∷ past) state is =
-      subst (IsOver (is_waiting (Told sent answer ∷ past))) (sym is.4) (after_told past is.0 is.2 sent answer (is_over past is.0 is.1) is.3)
+  is_over (Closed sent answer ∷ past) state is =
+      subst (IsOver (is_waiting (Closed sent answer ∷ past))) (sym is.4) (after_told past is.0 is.2 sent answer (is_over past is.0 is.1) is.3)
 
 -- in a cluster that keeps the rules
 pub over_by_rules : (begun : Begun) → KeepsRules begun.cluster → (past : List Step) (state : State) → IsState begun past state → ends state.stage ≡ true → (is_waiting past ≡ false) × (state.due ≡ [])

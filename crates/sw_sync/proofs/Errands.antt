@@ -4,12 +4,12 @@ use Rattle.std.specs.List.{All}
 use Rattle.std.proofs.lemmas.List.Elements.{All-append, All-cons, All-filter, All-head, All-nil, All-tail, All-weaker, Contains-append_left, Contains-append_right}
 use Rattle.std.proofs.lemmas.Option.{same_Some}
 use Rattle.sw_ring.proofs.Among.{Contains-cons}
-use Rattle.sw_message.specs.Transcript.{Gave, IsRun, Step, Told, given, is_not, open_at, opens}
+use Rattle.sw_message.specs.Transcript.{Closed, Gave, IsRun, Step, given, is_not, open_at, opens}
 use Rattle.sw_message.specs.declared.message.Msg.{Msg}
 use Rattle.sw_message.specs.declared.message.Msg.TheVariants as message
 use Rattle.sw_message.specs.declared.reply.Reply.{Reply}
 use Rattle.sw_message.specs.declared.sent.Sent.{Sent}
-use Rattle.sw_quorum.specs.Transcripts.{found}
+use Rattle.sw_quorum.proofs.Transcripts.{found}
 use Rattle.sw_gather.proofs.Lists.{first_or_later, here, none_in}
 use Rattle.sw_sync.specs.Sync.{Begun, IsNext, errand_of}
 use Rattle.sw_sync.specs.declared.errand.Errand.{Errand}
@@ -89,7 +89,7 @@ module _ (begun : Begun) (stamp : ℕ) (ToDo After : Errand → Type 0) (past : 
       ]
 
   -- an answer is heard, and more is due
-  pub does-told : (sent : Sent) (answer : Option Reply) (more : List Errand) → All After more → ((one : Errand) → After one → ToDo one ⊎ Contains more one) → Does begun stamp After (Told sent answer ∷ past) (due ++ more)
+  pub does-told : (sent : Sent) (answer : Option Reply) (more : List Errand) → All After more → ((one : Errand) → After one → ToDo one ⊎ Contains more one) → Does begun stamp After (Closed sent answer ∷ past) (due ++ more)
   does-told sent answer more sought back = record {
     sought = All-append After due more (All-weaker ToDo After keeps due does.sought) sought;
     opened = All-filter (is_not sent.ticket) (IsAbout begun stamp After) (opens past) (All-weaker (IsAbout begun stamp ToDo) (IsAbout begun stamp After) about-after (opens past) does.opened);

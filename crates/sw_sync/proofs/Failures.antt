@@ -9,7 +9,7 @@ use Rattle.sw_hashdir.specs.declared.floor.Floor.{Floor}
 use Rattle.sw_message.specs.Floors.{refuses, stands_above}
 use Rattle.sw_message.specs.Message.{is_primary}
 use Rattle.sw_message.specs.Miss.{miss_of}
-use Rattle.sw_message.specs.Transcript.{Gave, Step, Told}
+use Rattle.sw_message.specs.Transcript.{Closed, Gave, Step}
 use Rattle.sw_message.specs.declared.message.Msg.{Msg}
 use Rattle.sw_message.specs.declared.message.Msg.TheVariants as message
 use Rattle.sw_message.specs.declared.miss.Miss.{Miss}
@@ -18,7 +18,7 @@ use Rattle.sw_message.specs.declared.reply.Reply.{Reply}
 use Rattle.sw_message.specs.declared.reply.Reply.TheVariants as reply
 use Rattle.sw_message.specs.declared.sent.Sent.{Sent}
 use Rattle.sw_quorum.specs.Answers.{forbidden_if}
-use Rattle.sw_quorum.specs.Refusals.{not-done}
+use Rattle.sw_quorum.proofs.Refusals.{not-done}
 use Rattle.sw_quorum.specs.Verdicts.{commit_verdict, delete_verdict, store_verdict}
 use Rattle.sw_quorum.specs.declared.verdict.Verdict.{Verdict}
 use Rattle.sw_quorum.specs.declared.verdict.Verdict.TheVariants as verdict
@@ -174,18 +174,18 @@ module _ (begun : Begun) (past : List Step) (ticket device : ℕ) (msg : Msg) (a
   sent = record { ticket = ticket; device = device; msg = msg }
 
   abbrev after : List Step
-  after = Told sent answer ∷ past
+  after = Closed sent answer ∷ past
 
   asks-before : (primary : ℕ) (how : Miss) → MissedAsk begun after primary how → MissedAsk begun past primary how
-  asks-before = missed-before begun past (Told sent answer) (no-question begun sent answer other)
+  asks-before = missed-before begun past (Closed sent answer) (no-question begun sent answer other)
 
   each-later : All (HasFailed begun after) failed
-  each-later = All-weaker (HasFailed begun past) (HasFailed begun after) (failed-later begun past (Told sent answer)) failed are.each
+  each-later = All-weaker (HasFailed begun past) (HasFailed begun after) (failed-later begun past (Closed sent answer)) failed are.each
 
   -- to a write
   module _ (means : Verdict) (judged : IsJudged msg answer means) (primary : is_primary begun.cluster device begun.place ≡ true) (new : All (λ one. failed_device one ≢ device) failed) where
     told-now : WasTold after device msg answer
-    told-now = (ticket, here (Told sent answer) past)
+    told-now = (ticket, here (Closed sent answer) past)
 
     failed-now : (how : Verdict) → means ≡ how → All (HasFailed begun after) (failed_by device how)
     failed-now verdict.Done is = All-nil (HasFailed begun after)

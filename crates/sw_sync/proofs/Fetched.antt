@@ -6,7 +6,7 @@ use Rattle.std.proofs.lemmas.Bool.{eq-eqb, eqb-true}
 use Rattle.std.proofs.lemmas.List.Elements.{All-cons, All-contains_itself, All-map, All-nil, All-weaker, Contains-append_left, Contains-push, Contains-push_cases}
 use Rattle.std.proofs.lemmas.List.Kept.{AllPairs-filter}
 use Rattle.sw_archive.specs.Archive.{ArchiveModel}
-use Rattle.sw_message.specs.Transcript.{Step, Told}
+use Rattle.sw_message.specs.Transcript.{Closed, Step}
 use Rattle.sw_message.specs.declared.message.Msg.TheVariants as message
 use Rattle.sw_message.specs.declared.miss.Miss.{Miss}
 use Rattle.sw_message.specs.declared.reply.Reply.{Reply}
@@ -35,7 +35,7 @@ module _ (begun : Begun) (past : List Step) (repair : Repair) (due : List Errand
   Todo past = ToRepair begun past repairing.heard repair
 
   abbrev now : Sent → Option Reply → List Step
-  now sent answer = Told sent answer ∷ past
+  now sent answer = Closed sent answer ∷ past
 
   -- an archive was fetched
   module _ (ticket : ℕ) (source : Target) (answer : Option Reply) (there : Contains repair.tried source) (untold : IsUntold past (Fetch source)) where
@@ -55,7 +55,7 @@ module _ (begun : Begun) (past : List Step) (repair : Repair) (due : List Errand
     fetch-failures = failures-fetched begun past ticket source.device fetch.msg answer repair.failed repairing.failures (λ same. cc) (λ how is. is) (λ floor is. is)
 
     fetch-surveyed : Surveyed begun then_on repairing.heard
-    fetch-surveyed = surveyed-later begun past (Told fetch answer) repairing.heard (no-question begun fetch answer (λ same. cc)) repairing.surveyed
+    fetch-surveyed = surveyed-later begun past (Closed fetch answer) repairing.heard (no-question begun fetch answer (λ same. cc)) repairing.surveyed
 
     module _ (archive : ArchiveModel) (is : IsFetched begun.cluster begun.place repair source.index answer (Brings archive)) where
       abbrev with_it : Repair
@@ -68,7 +68,7 @@ module _ (begun : Begun) (past : List Step) (repair : Repair) (due : List Errand
       fewer enough = let brings = fetched-brings begun repair source.index answer archive is in let code = brings.2.1.code.0 in omega (arith, enough, code, brings.3.few)
 
       brought-keeps : (errand : Errand) → Todo past errand → After errand
-      brought-keeps (Commit target) todo = repair-later begun past (Told fetch answer) repairing.heard repair (Commit target) todo
+      brought-keeps (Commit target) todo = repair-later begun past (Closed fetch answer) repairing.heard repair (Commit target) todo
       brought-keeps (Store target) todo = absurd (fewer todo.1)
       brought-keeps (Fetch other) todo = todo
       brought-keeps (Ask device) todo = todo
@@ -84,7 +84,7 @@ module _ (begun : Begun) (past : List Step) (repair : Repair) (due : List Errand
           (All-weaker (Contains repair.lacking) (λ (target : Target). After (Store target)) (λ target lacks. (lacks, eqb-true (length with_it.archives) begun.cluster.policy.k count)) repair.lacking (All-contains_itself repair.lacking))
 
       brought-back : (errand : Errand) → After errand → Todo past errand ⊎ Contains (due_by (length with_it.archives == begun.cluster.policy.k)) errand
-      brought-back (Commit target) todo = inl (repair-before begun past (Told fetch answer) repairing.heard repair nothing-stored (Commit target) todo)
+      brought-back (Commit target) todo = inl (repair-before begun past (Closed fetch answer) repairing.heard repair nothing-stored (Commit target) todo)
       brought-back (Store target) todo =
           inr (subst (λ b. Contains (due_by b) (Store target)) (sym (eq-eqb (length with_it.archives) begun.cluster.policy.k todo.1)) (in_map Store repair.lacking target todo.0))
       brought-back (Fetch other) todo = inl todo
@@ -125,8 +125,8 @@ module _ (begun : Begun) (past : List Step) (repair : Repair) (due : List Errand
       without = lost repair source how
 
       retried-keeps : (found : Option Target) (errand : Errand) → Todo past errand → ToRepair begun then_on repairing.heard (retried without found) errand
-      retried-keeps None errand todo = repair-later begun past (Told fetch answer) repairing.heard repair errand todo
-      retried-keeps (Some first) (Commit target) todo = repair-later begun past (Told fetch answer) repairing.heard repair (Commit target) todo
+      retried-keeps None errand todo = repair-later begun past (Closed fetch answer) repairing.heard repair errand todo
+      retried-keeps (Some first) (Commit target) todo = repair-later begun past (Closed fetch answer) repairing.heard repair (Commit target) todo
       retried-keeps (Some first) (Store target) todo = todo
       retried-keeps (Some first) (Fetch other) todo = Contains-append_left repair.tried (first ∷ []) other todo
       retried-keeps (Some first) (Ask device) todo = todo
@@ -138,8 +138,8 @@ module _ (begun : Begun) (past : List Step) (repair : Repair) (due : List Errand
           All-cons (ToRepair begun then_on repairing.heard (retried without (Some first))) (Fetch first) [] (Contains-push repair.tried first) (All-nil (ToRepair begun then_on repairing.heard (retried without (Some first))))
 
       retried-back : (found : Option Target) (errand : Errand) → ToRepair begun then_on repairing.heard (retried without found) errand → Todo past errand ⊎ Contains (due_retried found) errand
-      retried-back None errand todo = inl (repair-before begun past (Told fetch answer) repairing.heard repair nothing-stored errand todo)
-      retried-back (Some first) (Commit target) todo = inl (repair-before begun past (Told fetch answer) repairing.heard repair nothing-stored (Commit target) todo)
+      retried-back None errand todo = inl (repair-before begun past (Closed fetch answer) repairing.heard repair nothing-stored errand todo)
+      retried-back (Some first) (Commit target) todo = inl (repair-before begun past (Closed fetch answer) repairing.heard repair nothing-stored (Commit target) todo)
       retried-back (Some first) (Store target) todo = inl todo
       retried-back (Some first) (Fetch other) todo = elim (Contains-push_cases repair.tried first other todo) [
         | inl before ↦ inl before

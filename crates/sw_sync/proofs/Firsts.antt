@@ -6,13 +6,14 @@ use Rattle.std.proofs.lemmas.List.Elements.{All-contains, All-contains_itself, A
 use Rattle.std.proofs.lemmas.List.Sums.{sum_by-append, sum_by-cons}
 use Rattle.std.proofs.lemmas.Option.{same_Some}
 use Rattle.sw_message.specs.Message.{AreAlike}
-use Rattle.sw_message.specs.Transcript.{Gave, IsRun, Step, Told, given, open_at, opens}
+use Rattle.sw_message.specs.Transcript.{Closed, Gave, IsRun, Step, given, open_at, opens}
 use Rattle.sw_message.specs.declared.message.Msg.{Msg}
 use Rattle.sw_message.specs.declared.message.Msg.TheVariants as message
 use Rattle.sw_message.specs.declared.reply.Reply.{Reply}
 use Rattle.sw_message.specs.declared.sent.Sent.{Sent}
-use Rattle.sw_quorum.specs.Places.{counted-among, one_if}
-use Rattle.sw_quorum.specs.Transcripts.{closed, found, sums-keep}
+use Rattle.sw_quorum.proofs.Places.{counted-among, one_if}
+use Rattle.sw_quorum.proofs.Transcripts.{found, sums-keep}
+use Rattle.sw_quorum.specs.Transcripts.{closed}
 use Rattle.sw_gather.specs.Choices.{same_target}
 use Rattle.sw_gather.proofs.Sources.{same_source, self_same}
 use Rattle.sw_sync.specs.Sync.{Begun, IsNext, errand_of}
@@ -96,7 +97,7 @@ pub record Once (begun : Begun) (stamp : ℕ) (ToDo : Errand → Type 0) (past :
 
 -- no answer to such a message came
 abbrev pub IsUntold : List Step → Errand → Type 0
-IsUntold past errand = (other : Sent) (answer : Option Reply) → Contains past (Told other answer) → errand_of other.device other.msg ≡ Some errand → ⊥
+IsUntold past errand = (other : Sent) (answer : Option Reply) → Contains past (Closed other answer) → errand_of other.device other.msg ≡ Some errand → ⊥
 
 -- a question is about nothing that is to be done
 about-question : (begun : Begun) (P : Errand → Type 0) → ((device : ℕ) → P (Ask device) → ⊥) → (sent : Sent) (errand : Errand) → P errand → IsQuestion begun sent → errand_of sent.device sent.msg ≡ Some errand → ⊥
@@ -143,7 +144,7 @@ module _ (begun : Begun) (stamp : ℕ) (ToDo After : Errand → Type 0) (past : 
 
   -- an answer is heard, and more is due that was not to be done before
   pub once-told : (sent : Sent) (answer : Option Reply) (more : List Errand) → All ToDo due → ((device : ℕ) → After (Ask device) → ⊥) → All (λ errand. ToDo errand → ⊥) more
-      → ((errand : Errand) → count_by (same_errand errand) more ≤ 1) → ((one : Errand) → After one → ToDo one ⊎ Contains more one) → Once begun stamp After (Told sent answer ∷ past) (due ++ more)
+      → ((errand : Errand) → count_by (same_errand errand) more ≤ 1) → ((one : Errand) → After one → ToDo one ⊎ Contains more one) → Once begun stamp After (Closed sent answer ∷ past) (due ++ more)
   once-told sent answer more sought never new apart back = record { handed = handed-after; once = λ one is. by_new one is (back one is) }
     where
       by_new : (one : Errand) → After one → ToDo one ⊎ Contains more one → count_by (is_about one) (given past) + count_by (same_errand one) (due ++ more) ≤ 1
@@ -201,11 +202,11 @@ module _ (begun : Begun) (stamp : ℕ) (ToDo : Errand → Type 0) (past : List S
         ))
 
     -- what was answered has one answer
-    pub told-same : (errand : Errand) → ToDo errand → (a b : Sent) (x y : Option Reply) → errand_of a.device a.msg ≡ Some errand → errand_of b.device b.msg ≡ Some errand → Contains past (Told a x) → Contains past (Told b y)
+    pub told-same : (errand : Errand) → ToDo errand → (a b : Sent) (x y : Option Reply) → errand_of a.device a.msg ≡ Some errand → errand_of b.device b.msg ≡ Some errand → Contains past (Closed a x) → Contains past (Closed b y)
         → x ≡ y
     told-same errand todo a b x y first second told other =
         told-once (is_about errand) past (omega (arith, once.once errand todo, kept-counts errand)) a b x y (about-so errand a first) (about-so errand b second) told other
 
     -- and is about something that is to be done, or a question
-    pub told-about : (sent : Sent) (answer : Option Reply) → Contains past (Told sent answer) → IsQuestion begun sent ⊎ IsAbout begun stamp ToDo sent
+    pub told-about : (sent : Sent) (answer : Option Reply) → Contains past (Closed sent answer) → IsQuestion begun sent ⊎ IsAbout begun stamp ToDo sent
     told-about sent answer there = told-each begun (λ sent. IsQuestion begun sent ⊎ IsAbout begun stamp ToDo sent) past sent answer run once.handed there

@@ -12,7 +12,7 @@ use Rattle.sw_archive.specs.Assemble.{AreEnough, IsNext}
 use Rattle.sw_ring.specs.Cluster.{ClusterModel, KeepsRules}
 use Rattle.sw_ring.proofs.Roles.{column_length}
 use Rattle.sw_message.specs.Spoil.{HasCode}
-use Rattle.sw_message.specs.Transcript.{Gave, Step, Told}
+use Rattle.sw_message.specs.Transcript.{Closed, Gave, Step}
 use Rattle.sw_message.specs.declared.reply.Reply.{Reply}
 use Rattle.sw_message.specs.declared.reply.Reply.TheVariants as reply
 use Rattle.sw_message.specs.declared.target.Target.{Target}
@@ -207,7 +207,7 @@ module _ (begun : Begun) (rules : KeepsRules begun.cluster) where
   is-fit (Gave sent ∷ past) state is =
       let before = is-fit past is.0 is.1 in
       subst IsFit (sym is.2.after_is) (before.0, All-tail (Fits is.0.stage) is.2.errand is.2.later (subst (All (Fits is.0.stage)) is.2.first before.1))
-  is-fit (Told sent answer ∷ past) state is =
+  is-fit (Closed sent answer ∷ past) state is =
       let before = is-fit past is.0 is.1 in
       subst IsFit (sym is.4)
       (settled-fit is.2 _ (subst IsFit (sym is.3.after_is) (hears-fit is.0.stage is.3.errand answer is.3.stage is.0.due is.3.more is.3.hears before)))

@@ -9,7 +9,7 @@ use Rattle.std.proofs.lemmas.List.Quantifiers.{all_pairs_push}
 use Rattle.std.proofs.lemmas.List.Sums.{sum_by-append, sum_by-cons}
 use Rattle.sw_archive.specs.Archive.{ArchiveModel}
 use Rattle.sw_archive.specs.Assemble as assemble
-use Rattle.sw_message.specs.Transcript.{Gave, Step, Told, given}
+use Rattle.sw_message.specs.Transcript.{Closed, Gave, Step, given}
 use Rattle.sw_message.specs.declared.message.Msg.{Msg}
 use Rattle.sw_message.specs.declared.message.Msg.TheVariants as message
 use Rattle.sw_message.specs.declared.miss.Miss.{Miss}
@@ -141,10 +141,10 @@ module _ (begun : Begun) (past : List Step) (repair : Repair) (due : List Errand
   sent = record { ticket = ticket; device = device; msg = msg }
 
   abbrev after : List Step
-  after = Told sent answer ∷ past
+  after = Closed sent answer ∷ past
 
   misses-told : AreMisses begun after repair.stamp gathers.missed repair.misses
-  misses-told = misses-later begun past (Told sent answer) repair.stamp (no-question begun sent answer other) gathers.missed repair.misses gathers.misses
+  misses-told = misses-later begun past (Closed sent answer) repair.stamp (no-question begun sent answer other) gathers.missed repair.misses gathers.misses
 
   none-more : (more : List Errand) → count_by to_fetch more ≡ 0 → count_by to_fetch (due ++ more) ≡ count_by to_fetch due
   none-more more none = omega (arith, none, sum_by-append (λ (one : Errand). cond (to_fetch one) 1 0) due more)
@@ -153,7 +153,7 @@ module _ (begun : Begun) (past : List Step) (repair : Repair) (due : List Errand
   pub gathers-other : (more : List Errand) (commits rebuilt : ℕ) (failed : List _) → fetches msg ≡ false → count_by to_fetch more ≡ 0
       → Gathers begun after (record repair { commits = commits; rebuilt = rebuilt; failed = failed }) (due ++ more)
   gathers-other more commits rebuilt failed no_fetch none = record {
-    brought = brought-later begun past (Told sent answer) repair.stamp repair.archives gathers.brought;
+    brought = brought-later begun past (Closed sent answer) repair.stamp repair.archives gathers.brought;
     few = gathers.few;
     missed = gathers.missed;
     spent = λ source told was. elim (told-cases past sent answer source.device (message.Fetch begun.place repair.stamp source.index) told was) [
@@ -167,7 +167,7 @@ module _ (begun : Begun) (past : List Step) (repair : Repair) (due : List Errand
     free = gathers.free;
     worth = gathers.worth;
     misses = misses-told;
-    living = living-later begun past repair.stamp repair.tried repair.lost repair.archives gathers.living (Told sent answer);
+    living = living-later begun past repair.stamp repair.tried repair.lost repair.archives gathers.living (Closed sent answer);
   }
 
 -- ---- an answer to a fetch
@@ -214,10 +214,10 @@ module _ (begun : Begun) (past : List Step) (repair : Repair) (due : List Errand
   fetched = record { ticket = ticket; device = source.device; msg = msg }
 
   abbrev now : List Step
-  now = Told fetched answer ∷ past
+  now = Closed fetched answer ∷ past
 
   told-now : WasTold now source.device msg answer
-  told-now = (ticket, here (Told fetched answer) past)
+  told-now = (ticket, here (Closed fetched answer) past)
 
   -- an answer to a fetch from another source was there before
   by-source : (P : Target → Type 0) → P source → ((other : Target) (told : Option Reply) → WasTold past other.device (message.Fetch begun.place repair.stamp other.index) told → P other)
@@ -243,7 +243,7 @@ module _ (begun : Begun) (past : List Step) (repair : Repair) (due : List Errand
         told = subst (λ n. WasTold now source.device (message.Fetch begun.place repair.stamp n) (Some (reply.Fragment brings.0))) (sym asked.index_is) (subst (WasTold now source.device msg) brings.1 told-now);
         is = as-archive begun repair.stamp archive.index brings.0 archive (subst (λ n. IsWanted begun.cluster begun.place repair.stamp n brings.0 archive) (sym asked.index_is) brings.2);
       } in
-      let before = brought-later begun past (Told fetched answer) repair.stamp repair.archives gathers.brought in
+      let before = brought-later begun past (Closed fetched answer) repair.stamp repair.archives gathers.brought in
       let after = brought repair archive in
       record {
         brought = record {
@@ -263,7 +263,7 @@ module _ (begun : Begun) (past : List Step) (repair : Repair) (due : List Errand
         lost_tried = gathers.lost_tried;
         free = gathers.free;
         worth = gathers.worth;
-        living = living-brought begun past repair.stamp repair.tried repair.lost repair.archives gathers.living source there untold (Told fetched answer) (answer, told-now) archive (sym asked.index_is);
+        living = living-brought begun past repair.stamp repair.tried repair.lost repair.archives gathers.living source there untold (Closed fetched answer) (answer, told-now) archive (sym asked.index_is);
         misses = misses-told begun past repair due gathers ticket source.device msg answer (λ same. cc);
       }
     where
@@ -312,7 +312,7 @@ module _ (begun : Begun) (past : List Step) (repair : Repair) (due : List Errand
     -- by the first that is free
     gathers-retried : (found : Option Target) → free_in without ≡ found → Gathers begun now (retried without found) (due ++ due_retried found)
     gathers-retried None none = record {
-      brought = brought-later begun past (Told fetched answer) repair.stamp repair.archives gathers.brought;
+      brought = brought-later begun past (Closed fetched answer) repair.stamp repair.archives gathers.brought;
       few = gathers.few;
       missed = all_missed;
       spent = spent-lost;
@@ -323,13 +323,13 @@ module _ (begun : Begun) (past : List Step) (repair : Repair) (due : List Errand
       free = λ lacking listed. inl (λ other among. none_passes (is_free without) repair.choices other none among);
       worth = gathers.worth;
       misses = misses-lost;
-      living = living-lost begun past repair.stamp repair.tried repair.lost repair.archives gathers.living source there untold (Told fetched answer) (answer, told-now);
+      living = living-lost begun past repair.stamp repair.tried repair.lost repair.archives gathers.living source there untold (Closed fetched answer) (answer, told-now);
     }
     gathers-retried (Some first) at =
         let free_one = found-free (is_free without) repair.choices first at in
         let tried : List Target = repair.tried ++ first ∷ [] in
         record {
-          brought = brought-later begun past (Told fetched answer) repair.stamp repair.archives gathers.brought;
+          brought = brought-later begun past (Closed fetched answer) repair.stamp repair.archives gathers.brought;
           few = gathers.few;
           missed = all_missed;
           spent = spent-lost;
@@ -349,7 +349,7 @@ module _ (begun : Begun) (past : List Step) (repair : Repair) (due : List Errand
           ];
           worth = λ other was. gathers.worth source there;
           misses = misses-lost;
-          living = living-retried begun past repair.stamp repair.tried repair.lost repair.archives gathers.living source there untold (Told fetched answer) (answer, told-now) first free_one.1;
+          living = living-retried begun past repair.stamp repair.tried repair.lost repair.archives gathers.living source there untold (Closed fetched answer) (answer, told-now) first free_one.1;
         }
 
     pub gathers-lost : Gathers begun now (retried without (free_in without)) (due ++ due_retried (free_in without))

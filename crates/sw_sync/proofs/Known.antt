@@ -5,12 +5,13 @@ use Rattle.std.specs.List.{AllPairs, find}
 use Rattle.std.proofs.lemmas.Option.{none-some, same_Some}
 use Rattle.sw_types.proofs.Policies.{bounds}
 use Rattle.sw_hashdir.specs.declared.floor.Floor.{Floor}
-use Rattle.sw_message.specs.Transcript.{Gave, IsRun, Step, Told, is_waiting, open_at, opens}
+use Rattle.sw_message.specs.Transcript.{Closed, Gave, IsRun, Step, is_waiting, open_at, opens}
 use Rattle.sw_message.specs.declared.reply.Reply.{Reply}
 use Rattle.sw_message.specs.declared.sent.Sent.{Sent}
 use Rattle.sw_message.specs.declared.message.Msg.TheVariants as message
 use Rattle.sw_message.specs.declared.target.Target.{Target}
-use Rattle.sw_quorum.specs.Transcripts.{found, has_ticket}
+use Rattle.sw_quorum.proofs.Transcripts.{found}
+use Rattle.sw_quorum.specs.Transcripts.{has_ticket}
 use Rattle.sw_quorum.specs.Verdicts.{commit_verdict, delete_verdict, store_verdict}
 use Rattle.sw_sync.specs.Parts.{Burial, Heard, Repair}
 use Rattle.sw_sync.specs.Standing.{ends}
@@ -73,7 +74,7 @@ knows-gave begun past (Ends end) errand due later sent first message over knows 
 
 module _ (begun : Begun) (past : List Step) (sent : Sent) (answer : Option Reply) (is_open : open_at sent.ticket past ≡ Some sent) (errand : Errand) (about : errand_of sent.device sent.msg ≡ Some errand) (due : List Errand) where
   abbrev now : List Step
-  now = Told sent answer ∷ past
+  now = Closed sent answer ∷ past
 
   -- a device was asked
   module _ (heard : Heard) (rest : List ℕ) (asking : Asking begun past heard due rest) where
@@ -100,11 +101,11 @@ module _ (begun : Begun) (past : List Step) (sent : Sent) (answer : Option Reply
 -- the tombstone went to a primary
 module _ (begun : Begun) (past : List Step) (run : IsRun (IsNext begun) past) (sent : Sent) (answer : Option Reply) (burial : Burial) (due : List Errand) (burying : Burying begun past burial due) where
   buries-told : (errand : Errand) (after : Stage) (more : List Errand) → IsUntold past errand → ToBury begun burying.heard burial.stamp errand → IsFor begun burial.stamp errand sent
-      → Hears begun.cluster begun.place (Buries burial) errand answer after more → Knows begun (Told sent answer ∷ past) after (due ++ more)
+      → Hears begun.cluster begun.place (Buries burial) errand answer after more → Knows begun (Closed sent answer ∷ past) after (due ++ more)
   buries-told (Delete device) after more untold todo (ticket, bytes, is) hears =
-      subst (λ (one : Sent). Knows begun (Told one answer ∷ past) after (due ++ more)) (sym is)
-      (subst (λ (one : Stage). Knows begun (Told (sent_for begun burial.stamp ticket bytes (Delete device)) answer ∷ past) one (due ++ more)) (sym hears.0)
-      (subst (λ these. Knows begun (Told (sent_for begun burial.stamp ticket bytes (Delete device)) answer ∷ past) (Buries (buried burial device (delete_verdict burial.stamp answer))) (due ++ these)) (sym hears.1)
+      subst (λ (one : Sent). Knows begun (Closed one answer ∷ past) after (due ++ more)) (sym is)
+      (subst (λ (one : Stage). Knows begun (Closed (sent_for begun burial.stamp ticket bytes (Delete device)) answer ∷ past) one (due ++ more)) (sym hears.0)
+      (subst (λ these. Knows begun (Closed (sent_for begun burial.stamp ticket bytes (Delete device)) answer ∷ past) (Buries (buried burial device (delete_verdict burial.stamp answer))) (due ++ these)) (sym hears.1)
       (burying-told begun past burial due burying device ticket answer todo run untold)))
   buries-told (Ask device) after more untold todo for hears = absurd todo
   buries-told (Fetch source) after more untold todo for hears = absurd todo
@@ -114,20 +115,20 @@ module _ (begun : Begun) (past : List Step) (run : IsRun (IsNext begun) past) (s
 -- an entry was to be made durable or stored, or an archive was fetched
 module _ (begun : Begun) (valid : IsBegun begun) (past : List Step) (run : IsRun (IsNext begun) past) (answer : Option Reply) (repair : Repair) (due : List Errand) (repairing : Repairing begun past repair due) where
   fetch-told : (ticket : ℕ) (source : Target) (meaning : Meaning) → Contains repair.tried source → IsUntold past (Fetch source) → IsFetched begun.cluster begun.place repair source.index answer meaning
-      → Repairing begun (Told (record { ticket = ticket; device = source.device; msg = message.Fetch begun.place repair.stamp source.index }) answer ∷ past) (fetched repair source meaning)
+      → Repairing begun (Closed (record { ticket = ticket; device = source.device; msg = message.Fetch begun.place repair.stamp source.index }) answer ∷ past) (fetched repair source meaning)
       (due ++ due_fetched begun.cluster.policy.k repair source meaning)
   fetch-told ticket source (Brings archive) there untold is = repairing-brought begun past repair due repairing ticket source answer there untold archive is
   fetch-told ticket source (Loses how) there untold is = repairing-lost begun past repair due repairing ticket source answer there untold how is
 
-  as-told : (sent : Sent) (one after : Repair) (these more : List Errand) → after ≡ one → more ≡ these → Repairing begun (Told sent answer ∷ past) one (due ++ these) → Repairing begun (Told sent answer ∷ past) after (due ++ more)
+  as-told : (sent : Sent) (one after : Repair) (these more : List Errand) → after ≡ one → more ≡ these → Repairing begun (Closed sent answer ∷ past) one (due ++ these) → Repairing begun (Closed sent answer ∷ past) after (due ++ more)
   as-told sent one after these more same due_is is =
-      subst (λ (one : Repair). Repairing begun (Told sent answer ∷ past) one (due ++ more)) (sym same) (subst (λ these. Repairing begun (Told sent answer ∷ past) one (due ++ these)) (sym due_is) is)
+      subst (λ (one : Repair). Repairing begun (Closed sent answer ∷ past) one (due ++ more)) (sym same) (subst (λ these. Repairing begun (Closed sent answer ∷ past) one (due ++ these)) (sym due_is) is)
 
   apart : AllPairs (λ a b. a ≢ b) (primaries begun)
   apart = valid.rules.apart begun.place.part (part_small begun valid)
 
   repair-told : (errand : Errand) (ticket : ℕ) (bytes : List ℕ) (after : Repair) (more : List Errand) → IsUntold past errand → ToRepair begun past repairing.heard repair errand → HearsRepair begun.cluster begun.place repair errand answer after more
-      → Repairing begun (Told (sent_for begun repair.stamp ticket bytes errand) answer ∷ past) after (due ++ more)
+      → Repairing begun (Closed (sent_for begun repair.stamp ticket bytes errand) answer ∷ past) after (due ++ more)
   repair-told (Commit target) ticket bytes after more untold todo hears =
       as-told (sent_for begun repair.stamp ticket bytes (Commit target)) (committed repair target (commit_verdict repair.stamp answer)) after [] more hears.0 hears.1
       (repairing-committed begun past repair due repairing apart run ticket target answer todo untold (is_lacking repair target.index) refl)
@@ -140,7 +141,7 @@ module _ (begun : Begun) (valid : IsBegun begun) (past : List Step) (run : IsRun
   repair-told (Delete device) ticket bytes after more untold todo hears = absurd todo
 
 knows-told : (begun : Begun) (valid : IsBegun begun) (past : List Step) (run : IsRun (IsNext begun) past) (sent : Sent) (answer : Option Reply) (stage after : Stage) (errand : Errand) (due more : List Errand) → open_at sent.ticket past ≡ Some sent → errand_of sent.device sent.msg ≡ Some errand
-    → Hears begun.cluster begun.place stage errand answer after more → (ends stage ≡ true → opens past ≡ []) → Knows begun past stage due → Knows begun (Told sent answer ∷ past) after (due ++ more)
+    → Hears begun.cluster begun.place stage errand answer after more → (ends stage ≡ true → opens past ≡ []) → Knows begun past stage due → Knows begun (Closed sent answer ∷ past) after (due ++ more)
 knows-told begun valid past run sent answer (Handoffs heard) after errand due more is_open about hears over knows = handoffs-told begun past sent answer is_open errand about due heard after more knows hears
 knows-told begun valid past run sent answer (Primaries heard) after errand due more is_open about hears over knows = primaries-told begun past sent answer is_open errand about due heard after more knows hears
 knows-told begun valid past run sent answer (Buries burial) after errand due more is_open about hears over knows =
@@ -150,8 +151,8 @@ knows-told begun valid past run sent answer (Buries burial) after errand due mor
 knows-told begun valid past run sent answer (Repairs repair) after errand due more is_open about hears over knows =
     let own = does-open begun repair.stamp (ToRepair begun past knows.heard repair) past due sent errand knows.does is_open about in
     let untold = not-told begun repair.stamp (ToRepair begun past knows.heard repair) past due knows.once run sent errand is_open about own.0 in
-    subst (λ (one : Sent). Knows begun (Told one answer ∷ past) after (due ++ more)) (sym own.1.2)
-    (subst (λ (one : Stage). Knows begun (Told (sent_for begun repair.stamp own.1.0 own.1.1 errand) answer ∷ past) one (due ++ more)) (sym hears.2)
+    subst (λ (one : Sent). Knows begun (Closed one answer ∷ past) after (due ++ more)) (sym own.1.2)
+    (subst (λ (one : Stage). Knows begun (Closed (sent_for begun repair.stamp own.1.0 own.1.1 errand) answer ∷ past) one (due ++ more)) (sym hears.2)
     (repair-told begun valid past run answer repair due knows errand own.1.0 own.1.1 hears.0 more untold own.0 hears.1))
 knows-told begun valid past run sent answer (Ends end) after errand due more is_open about hears over knows =
     absurd (none-some sent (ap (find (has_ticket sent.ticket)) (sym (over refl)) ∙ is_open))
@@ -202,10 +203,10 @@ module _ (begun : Begun) (valid : IsBegun begun) where
       let over = over_settled begun valid past is.0 is.1 in
       subst (KnowsState begun (Gave sent ∷ past)) (sym is.2.after_is)
       (knows-gave begun past is.0.stage is.2.errand is.0.due is.2.later sent is.2.first is.2.message (λ so. (over so).1) (known past run.1 is.0 is.1))
-  known (Told sent answer ∷ past) run state is =
+  known (Closed sent answer ∷ past) run state is =
       let over = over_settled begun valid past is.0 is.1 in
       let takes = is.3 in
-      subst (KnowsState begun (Told sent answer ∷ past)) (sym is.4)
-      (settled-by (Told sent answer ∷ past) run is.2 (is_waiting (Told sent answer ∷ past)) (is_empty is.2.due) refl refl
-      (subst (KnowsState begun (Told sent answer ∷ past)) (sym takes.after_is)
+      subst (KnowsState begun (Closed sent answer ∷ past)) (sym is.4)
+      (settled-by (Closed sent answer ∷ past) run is.2 (is_waiting (Closed sent answer ∷ past)) (is_empty is.2.due) refl refl
+      (subst (KnowsState begun (Closed sent answer ∷ past)) (sym takes.after_is)
       (knows-told begun valid past run.1 sent answer is.0.stage takes.stage takes.errand is.0.due takes.more run.0 takes.about takes.hears (λ so. none-open past (over so).0) (known past run.1 is.0 is.1))))

@@ -6,15 +6,16 @@ use Rattle.std.proofs.lemmas.Bool.{cases_order, eq-eqb, eqb-true, ltb-false, ltb
 use Rattle.std.proofs.lemmas.List.{length-map}
 use Rattle.sw_archive.specs.Archive.{ArchiveModel}
 use Rattle.sw_message.specs.Floors.{durable_at}
-use Rattle.sw_message.specs.Transcript.{IsRun, Step, Told, opens}
+use Rattle.sw_message.specs.Transcript.{Closed, IsRun, Step, opens}
 use Rattle.sw_message.specs.Warrant.{IsPrimaryOf}
 use Rattle.sw_message.specs.declared.message.Msg.TheVariants as message
 use Rattle.sw_message.specs.declared.reply.Reply.{Reply}
 use Rattle.sw_message.specs.declared.sent.Sent.{Sent}
 use Rattle.sw_message.specs.declared.target.Target.{Target}
 use Rattle.sw_quorum.specs.Targets.{targets_from}
-use Rattle.sw_quorum.specs.Places.{counted-among}
-use Rattle.sw_quorum.specs.Transcripts.{closed, sums-keep}
+use Rattle.sw_quorum.proofs.Places.{counted-among}
+use Rattle.sw_quorum.proofs.Transcripts.{sums-keep}
+use Rattle.sw_quorum.specs.Transcripts.{closed}
 use Rattle.sw_gather.specs.Choices.{firsts, has_index}
 use Rattle.sw_gather.proofs.Lists.{any_passes, here, in_filter, none_in, some_passes}
 use Rattle.sw_gather.proofs.Sources.{indices_of}
@@ -51,17 +52,17 @@ module _ (begun : Begun) (past : List Step) (run : IsRun (IsNext begun) past) (n
   commit-answered : (target : Target) → Todo (Commit target) → (answer : Option Reply) × WasTold past target.device (message.Commit begun.place repair.stamp target.index) answer
   commit-answered target todo =
       let sent = does-over begun repair.stamp Todo past run none repairing.does (Commit target) todo in
-      (sent.1.0, (sent.2.0, subst (λ (one : Sent). Contains past (Told one sent.1.0)) sent.2.2 sent.1.1))
+      (sent.1.0, (sent.2.0, subst (λ (one : Sent). Contains past (Closed one sent.1.0)) sent.2.2 sent.1.1))
 
   store-answered : (target : Target) → Todo (Store target) → (bytes : List ℕ) × (answer : Option Reply) × WasTold past target.device (message.PutFrag begun.place repair.stamp target.index bytes) answer
   store-answered target todo =
       let sent = does-over begun repair.stamp Todo past run none repairing.does (Store target) todo in
-      (sent.2.1, sent.1.0, (sent.2.0, subst (λ (one : Sent). Contains past (Told one sent.1.0)) sent.2.2 sent.1.1))
+      (sent.2.1, sent.1.0, (sent.2.0, subst (λ (one : Sent). Contains past (Closed one sent.1.0)) sent.2.2 sent.1.1))
 
   fetch-answered : (source : Target) → Contains repair.tried source → (answer : Option Reply) × WasTold past source.device (message.Fetch begun.place repair.stamp source.index) answer
   fetch-answered source there =
       let sent = does-over begun repair.stamp Todo past run none repairing.does (Fetch source) there in
-      (sent.1.0, (sent.2.0, subst (λ (one : Sent). Contains past (Told one sent.1.0)) sent.2.2 sent.1.1))
+      (sent.1.0, (sent.2.0, subst (λ (one : Sent). Contains past (Closed one sent.1.0)) sent.2.2 sent.1.1))
 
   -- ---- the indices that their primaries lack
 

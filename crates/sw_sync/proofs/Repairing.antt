@@ -7,7 +7,7 @@ use Rattle.std.proofs.lemmas.Option.{get_or_from_slice_get, slice_get_within}
 use Rattle.sw_ring.proofs.Among.{among-from_Contains}
 use Rattle.sw_message.specs.Floors.{durable_at}
 use Rattle.sw_message.specs.Message.{is_primary}
-use Rattle.sw_message.specs.Transcript.{Gave, Step, Told}
+use Rattle.sw_message.specs.Transcript.{Closed, Gave, Step}
 use Rattle.sw_message.specs.declared.message.Msg.TheVariants as message
 use Rattle.sw_message.specs.declared.reply.Reply.{Reply}
 use Rattle.sw_message.specs.declared.reply.Reply.TheVariants as reply
@@ -107,7 +107,7 @@ module _ (begun : Begun) (past : List Step) (step : Step) (heard : Heard) (repai
 -- an answer that stores nothing
 module _ (begun : Begun) (past : List Step) (repair : Repair) (sent : Sent) (answer : Option Reply) where
   pub stored-before : ((bytes : List ℕ) (target : Target) → sent.msg ≡ message.PutFrag begun.place repair.stamp target.index bytes → answer ≡ Some reply.Synced → ⊥) → (target : Target)
-      → IsStored begun (Told sent answer ∷ past) repair.stamp target → IsStored begun past repair.stamp target
+      → IsStored begun (Closed sent answer ∷ past) repair.stamp target → IsStored begun past repair.stamp target
   stored-before none target (bytes, was) = elim (told-cases past sent answer target.device (message.PutFrag begun.place repair.stamp target.index bytes) (Some reply.Synced) was) [
     | inl this ↦ absurd (none bytes target this.1 this.2)
     | inr before ↦ (bytes, before)

@@ -8,7 +8,7 @@ use Rattle.sw_archive.specs.Assemble.{AreTogether}
 use Rattle.sw_archive.proofs.Objects.{one_further}
 use Rattle.sw_ring.specs.Cluster.{ClusterModel, KeepsRules}
 use Rattle.sw_message.specs.Spoil.{IsOfPlace}
-use Rattle.sw_message.specs.Transcript.{Gave, Hand, Next, Over, Step, Told, Wait, given, is_waiting}
+use Rattle.sw_message.specs.Transcript.{Closed, Gave, Hand, Next, Over, Step, Wait, given, is_waiting}
 use Rattle.sw_message.specs.declared.message.Msg.{Msg}
 use Rattle.sw_message.specs.declared.message.Msg.TheVariants as message
 use Rattle.sw_message.specs.declared.miss.Miss.TheVariants as miss
@@ -103,10 +103,10 @@ module _ (begun : Begun) where
   one_state (Gave sent ∷ past) a b (before, was, hands) (other, so, also) =
       let same = one_state past other before so was in
       one_handing before a b sent sent hands (subst (λ (state : State). Hands begun state sent b) same also)
-  one_state (Told sent answer ∷ past) a b (before, was, after, takes, is) (other, so, next, also, then) =
+  one_state (Closed sent answer ∷ past) a b (before, was, after, takes, is) (other, so, next, also, then) =
       let same = one_state past other before so was in
       let taken = one_taking begun answer before after next sent (state-together begun past before was) takes (subst (λ (state : State). Takes begun state sent answer next) same also) in
-      is ∙ ap (settled begun (is_waiting (Told sent answer ∷ past))) taken ∙ sym then
+      is ∙ ap (settled begun (is_waiting (Closed sent answer ∷ past))) taken ∙ sym then
 
   pub one_end : (past : List Step) (one other : SyncEnd) → IsEnd begun past one → IsEnd begun past other → one ≡ other
   one_end past one other (closed, state, is, ends) (still, also, so, finishes) =

@@ -17,7 +17,7 @@ use Rattle.sw_message.specs.Warrant.{IsPrimaryOf}
 use Rattle.sw_message.specs.declared.miss.Miss.{Miss}
 use Rattle.sw_message.specs.declared.target.Target.{Target}
 use Rattle.sw_message.proofs.Highest.{above, above_lower, is_highest, neither_above, not_above}
-use Rattle.sw_quorum.specs.Places.{counted-among}
+use Rattle.sw_quorum.proofs.Places.{counted-among}
 use Rattle.sw_quorum.specs.Targets.{targets_from}
 use Rattle.sw_gather.proofs.Lists.{any_passes, first_or_later, from_flat, here, in_flat, none_in, some_passes}
 use Rattle.sw_sync.specs.Answers.{HasFloor, IsOwnFloor, ListsNone, ListsPlain, MissedAsk, WasListed}

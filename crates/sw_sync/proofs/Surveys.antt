@@ -4,7 +4,7 @@ use Rattle.std.specs.List.{All}
 use Rattle.std.proofs.lemmas.List.Elements.{All-nil, All-push, All-weaker, Contains-append_left, Contains-push}
 use Rattle.sw_hashdir.specs.Listing.{ListingModel}
 use Rattle.sw_message.specs.Miss.{miss_of}
-use Rattle.sw_message.specs.Transcript.{Gave, Step, Told}
+use Rattle.sw_message.specs.Transcript.{Closed, Gave, Step}
 use Rattle.sw_message.specs.declared.message.Msg.{Msg}
 use Rattle.sw_message.specs.declared.message.Msg.TheVariants as message
 use Rattle.sw_message.specs.declared.miss.Miss.{Miss}
@@ -35,14 +35,14 @@ survey-begun begun = record {
 
 -- a step answers no question
 abbrev pub IsNoQuestion : Begun → Step → Type 0
-IsNoQuestion begun step = (device : ℕ) (answer : Option Reply) (ticket : ℕ) → step ≡ Told (record { ticket = ticket; device = device; msg = message.Ask begun.place }) answer → ⊥
+IsNoQuestion begun step = (device : ℕ) (answer : Option Reply) (ticket : ℕ) → step ≡ Closed (record { ticket = ticket; device = device; msg = message.Ask begun.place }) answer → ⊥
 
-pub no-question : (begun : Begun) (sent : Sent) (answer : Option Reply) → (sent.msg ≡ message.Ask begun.place → ⊥) → IsNoQuestion begun (Told sent answer)
+pub no-question : (begun : Begun) (sent : Sent) (answer : Option Reply) → (sent.msg ≡ message.Ask begun.place → ⊥) → IsNoQuestion begun (Closed sent answer)
 no-question begun sent answer other device told ticket same = other (ap msg_of same)
   where
     msg_of : Step → Msg
     msg_of (Gave one) = one.msg
-    msg_of (Told one answer) = one.msg
+    msg_of (Closed one answer) = one.msg
 
 module _ (begun : Begun) (past : List Step) (step : Step) where
   pub missed-later : (device : ℕ) (how : Miss) → MissedAsk begun past device how → MissedAsk begun (step ∷ past) device how
@@ -51,7 +51,7 @@ module _ (begun : Begun) (past : List Step) (step : Step) where
   -- where it answers no question, such a miss was there before
   module _ (other : IsNoQuestion begun step) where
     told-before : (device : ℕ) (answer : Option Reply) → WasTold (step ∷ past) device (message.Ask begun.place) answer → WasTold past device (message.Ask begun.place) answer
-    told-before device answer (ticket, there) = elim (first_or_later step past (Told (record { ticket = ticket; device = device; msg = message.Ask begun.place }) answer) there) [
+    told-before device answer (ticket, there) = elim (first_or_later step past (Closed (record { ticket = ticket; device = device; msg = message.Ask begun.place }) answer) there) [
       | inl same ↦ absurd (other device answer ticket same)
       | inr later ↦ (ticket, later)
     ]
@@ -86,15 +86,15 @@ module _ (begun : Begun) (past : List Step) (heard : Heard) (survey : Survey beg
   asked = record { ticket = ticket; device = device; msg = message.Ask begun.place }
 
   abbrev after : Option Reply → List Step
-  after answer = Told asked answer ∷ past
+  after answer = Closed asked answer ∷ past
 
   told-now : (answer : Option Reply) → WasTold (after answer) device (message.Ask begun.place) answer
-  told-now answer = (ticket, here (Told asked answer) past)
+  told-now answer = (ticket, here (Closed asked answer) past)
 
   survey-listed : (listing : ListingModel) → Survey begun (after (Some (reply.Held listing))) (record heard { lists = heard.lists ++ (device, listing) ∷ [] })
   survey-listed listing = record {
     lists = All-push (λ (one : ℕ × ListingModel). WasListed begun (after (Some (reply.Held listing))) one.0 one.1) heard.lists (device, listing)
-        (lists-later begun past (Told asked (Some (reply.Held listing))) heard survey) (told-now (Some (reply.Held listing)));
+        (lists-later begun past (Closed asked (Some (reply.Held listing))) heard survey) (told-now (Some (reply.Held listing)));
     all_lists = λ other listed is. elim (told-cases past asked (Some (reply.Held listing)) other (message.Ask begun.place) (Some (reply.Held listed)) is) [
       | inl this ↦
           let same : listing ≡ listed = cc (this.2) in
@@ -102,7 +102,7 @@ module _ (begun : Begun) (past : List Step) (heard : Heard) (survey : Survey beg
           (subst (λ (one : ListingModel). Contains (heard.lists ++ (device, listing) ∷ []) (device, one)) same (Contains-push heard.lists (device, listing)))
       | inr before ↦ Contains-append_left heard.lists ((device, listing) ∷ []) (other, listed) (survey.all_lists other listed before)
     ];
-    misses = misses-later begun past (Told asked (Some (reply.Held listing))) heard survey;
+    misses = misses-later begun past (Closed asked (Some (reply.Held listing))) heard survey;
     all_misses = λ other how is. elim (told-cases past asked (Some (reply.Held listing)) other (message.Ask begun.place) is.answer is.told) [
       | inl this ↦ absurd (subst (λ (one : Option Reply). IsMissedAsk one how) (sym this.2) is.missed)
       | inr before ↦ survey.all_misses other how (record { answer = is.answer; told = before; missed = is.missed })
@@ -112,12 +112,12 @@ module _ (begun : Begun) (past : List Step) (heard : Heard) (survey : Survey beg
   survey-missed : (answer : Option Reply) (how : Miss) → IsMissedAsk answer how → ((other : Miss) → IsMissedAsk answer other → how ≡ other) → ((listing : ListingModel) → answer ≡ Some (reply.Held listing) → ⊥)
       → Survey begun (after answer) (record heard { misses = heard.misses ++ (device, how) ∷ [] })
   survey-missed answer how missed one none = record {
-    lists = lists-later begun past (Told asked answer) heard survey;
+    lists = lists-later begun past (Closed asked answer) heard survey;
     all_lists = λ other listed is. elim (told-cases past asked answer other (message.Ask begun.place) (Some (reply.Held listed)) is) [
       | inl this ↦ absurd (none listed this.2)
       | inr before ↦ survey.all_lists other listed before
     ];
-    misses = All-push (λ (one : ℕ × Miss). MissedAsk begun (after answer) one.0 one.1) heard.misses (device, how) (misses-later begun past (Told asked answer) heard survey)
+    misses = All-push (λ (one : ℕ × Miss). MissedAsk begun (after answer) one.0 one.1) heard.misses (device, how) (misses-later begun past (Closed asked answer) heard survey)
         (record { answer = answer; told = told-now answer; missed = missed });
     all_misses = λ other why is. elim (told-cases past asked answer other (message.Ask begun.place) is.answer is.told) [
       | inl this ↦

@@ -4,7 +4,7 @@ use Rattle.std.specs.Prelude.{if◌then◌else◌, ⊤}
 use Rattle.sw_archive.specs.Archive.{ArchiveModel}
 use Rattle.sw_archive.specs.Assemble.{AreTogether}
 use Rattle.sw_archive.proofs.Gatherings.{AreTogether-push, none_together}
-use Rattle.sw_message.specs.Transcript.{Gave, Step, Told, is_waiting}
+use Rattle.sw_message.specs.Transcript.{Closed, Gave, Step, is_waiting}
 use Rattle.sw_message.specs.declared.reply.Reply.{Reply}
 use Rattle.sw_message.specs.declared.reply.Reply.TheVariants as reply
 use Rattle.sw_message.specs.declared.target.Target.{Target}
@@ -95,7 +95,7 @@ module _ (begun : Begun) where
   pub state-together : (past : List Step) (state : State) → IsState begun past state → IsTogether state
   state-together [] state is = subst IsTogether (sym is) (settled-together false (beginning begun) tt)
   state-together (Gave sent ∷ past) state (before, was, hands) = subst IsTogether (sym hands.after_is) (state-together past before was)
-  state-together (Told sent answer ∷ past) state (before, was, after, takes, is) =
+  state-together (Closed sent answer ∷ past) state (before, was, after, takes, is) =
       subst IsTogether (sym is)
-      (settled-together (is_waiting (Told sent answer ∷ past)) after
+      (settled-together (is_waiting (Closed sent answer ∷ past)) after
       (subst IsTogether (sym takes.after_is) (hears-together before.stage takes.errand answer takes.stage takes.more takes.hears (state-together past before was))))

@@ -14,7 +14,7 @@ use Rattle.sw_message.specs.Floors.{durable_at, durable_floor, floors_in, is_dur
 use Rattle.sw_message.specs.Learnt.{AreKnown, Booked, IsOfBook, IsSoundBook, KnowsReply, Learnt}
 use Rattle.sw_message.specs.Message.{IsMember, IsPlaceOf, place_in}
 use Rattle.sw_message.specs.Running.{IsOf}
-use Rattle.sw_message.specs.Transcript.{Gave, IsRun, Step, Told}
+use Rattle.sw_message.specs.Transcript.{Closed, Gave, IsRun, Step}
 use Rattle.sw_message.specs.Warrant.{IsOfPut, IsWarranted}
 use Rattle.sw_message.specs.declared.message.Msg.{Msg}
 use Rattle.sw_message.specs.declared.message.Msg.TheVariants as message
@@ -46,10 +46,10 @@ use Rattle.sw_sync.proofs.Shows.{is-primary, own-floor}
 -- ---- what is known of replies
 
 module _ (cluster : ClusterModel) (learnt : Learnt) where
-  reply-known : (past : List Step) (sent : Sent) (given : Reply) → AreKnown cluster learnt past → Contains past (Told sent (Some given)) → KnowsReply cluster learnt sent.device sent.msg (Some given)
-  reply-known [] sent given known is = absurd (none_in (Told sent (Some given)) is)
-  reply-known (Gave other ∷ past) sent given known is = elim (first_or_later (Gave other) past (Told sent (Some given)) is) [ inl same ↦ absurd (cc) | inr later ↦ reply-known past sent given known later ]
-  reply-known (Told other answer ∷ past) sent given known is = elim (first_or_later (Told other answer) past (Told sent (Some given)) is) [
+  reply-known : (past : List Step) (sent : Sent) (given : Reply) → AreKnown cluster learnt past → Contains past (Closed sent (Some given)) → KnowsReply cluster learnt sent.device sent.msg (Some given)
+  reply-known [] sent given known is = absurd (none_in (Closed sent (Some given)) is)
+  reply-known (Gave other ∷ past) sent given known is = elim (first_or_later (Gave other) past (Closed sent (Some given)) is) [ inl same ↦ absurd (cc) | inr later ↦ reply-known past sent given known later ]
+  reply-known (Closed other answer ∷ past) sent given known is = elim (first_or_later (Closed other answer) past (Closed sent (Some given)) is) [
     | inl same ↦
         let same_sent : other ≡ sent = cc in
         let same_answer : answer ≡ Some given = cc in
@@ -60,7 +60,7 @@ module _ (cluster : ClusterModel) (learnt : Learnt) where
   book-sound : (past : List Step) → AreKnown cluster learnt past → IsSoundBook cluster.policy learnt.book
   book-sound [] known = known
   book-sound (Gave sent ∷ past) known = book-sound past known
-  book-sound (Told sent answer ∷ past) known = book-sound past known.1
+  book-sound (Closed sent answer ∷ past) known = book-sound past known.1
 
 -- ---- floors that a listing shows
 

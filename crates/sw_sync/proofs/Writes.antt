@@ -3,7 +3,7 @@ use Rattle.std.proofs.Common.{◌≡◌, ◌≢◌, ◌⊎◌, inl, inr, ℕ, �
 use Rattle.std.specs.List.{All, AllPairs, count_by}
 use Rattle.std.proofs.lemmas.List.Elements.{All-cons, All-nil}
 use Rattle.sw_hashdir.specs.Listing.{ListingModel}
-use Rattle.sw_message.specs.Transcript.{IsRun, Step, Told}
+use Rattle.sw_message.specs.Transcript.{Closed, IsRun, Step}
 use Rattle.sw_message.specs.declared.message.Msg.{Msg}
 use Rattle.sw_message.specs.declared.message.Msg.TheVariants as message
 use Rattle.sw_message.specs.declared.reply.Reply.{Reply}
@@ -42,7 +42,7 @@ module _ (begun : Begun) (past : List Step) (repair : Repair) (due : List Errand
   Todo past = ToRepair begun past repairing.heard repair
 
   abbrev now : Sent → Option Reply → List Step
-  now sent answer = Told sent answer ∷ past
+  now sent answer = Closed sent answer ∷ past
 
   -- what is lacking is not plain
   plain-lacking : (target : Target) → shows_plain repair.stamp repairing.heard.lists target ≡ true → Contains repair.lacking target → ⊥
@@ -65,8 +65,8 @@ module _ (begun : Begun) (past : List Step) (repair : Repair) (due : List Errand
     same-target : (one : Target) → Contains (targets_from 0 (primaries begun)) one → target.device ≡ one.device → one ≡ target
     same-target one there same = one-target (primaries begun) apart one target (is-primary begun one there) (is-primary begun target primary) (sym same)
 
-    never-refused : ((sent : Sent) (answer : Option Reply) → Contains past (Told sent answer) → HasRefused sent.msg answer → Todo past (Commit target) → errand_of sent.device sent.msg ≡ Some (Commit target) → ⊥)
-        → ((sent : Sent) (answer : Option Reply) → Contains past (Told sent answer) → HasRefused sent.msg answer → Todo past (Store target) → errand_of sent.device sent.msg ≡ Some (Store target) → ⊥)
+    never-refused : ((sent : Sent) (answer : Option Reply) → Contains past (Closed sent answer) → HasRefused sent.msg answer → Todo past (Commit target) → errand_of sent.device sent.msg ≡ Some (Commit target) → ⊥)
+        → ((sent : Sent) (answer : Option Reply) → Contains past (Closed sent answer) → HasRefused sent.msg answer → Todo past (Store target) → errand_of sent.device sent.msg ≡ Some (Store target) → ⊥)
         → (msg : Msg) (answer : Option Reply) → WasTold past target.device msg answer → HasRefused msg answer → ⊥
     never-refused commits stores msg answer (ticket, there) refused = by_about (told-about begun repair.stamp (Todo past) past due repairing.once run sent answer there)
       where
@@ -102,15 +102,15 @@ module _ (begun : Begun) (past : List Step) (repair : Repair) (due : List Errand
       none-stored = stored-before begun past repair asked answer (λ bytes one same synced. cc)
 
       commit-does : Does begun repair.stamp (Todo (now asked answer)) (now asked answer) (due ++ [])
-      commit-does = does-told begun repair.stamp (Todo past) (Todo (now asked answer)) past due repairing.does (repair-later begun past (Told asked answer) repairing.heard repair) asked answer []
-          (All-nil (Todo (now asked answer))) (λ one is. inl (repair-before begun past (Told asked answer) repairing.heard repair none-stored one is))
+      commit-does = does-told begun repair.stamp (Todo past) (Todo (now asked answer)) past due repairing.does (repair-later begun past (Closed asked answer) repairing.heard repair) asked answer []
+          (All-nil (Todo (now asked answer))) (λ one is. inl (repair-before begun past (Closed asked answer) repairing.heard repair none-stored one is))
 
       commit-once : Once begun repair.stamp (Todo (now asked answer)) (now asked answer) (due ++ [])
-      commit-once = once-told begun repair.stamp (Todo past) (Todo (now asked answer)) past due repairing.once (repair-later begun past (Told asked answer) repairing.heard repair) asked answer [] repairing.does.sought (λ device is. is)
-          (All-nil (λ errand. Todo past errand → ⊥)) (λ errand. omega arith) (λ one is. inl (repair-before begun past (Told asked answer) repairing.heard repair none-stored one is))
+      commit-once = once-told begun repair.stamp (Todo past) (Todo (now asked answer)) past due repairing.once (repair-later begun past (Closed asked answer) repairing.heard repair) asked answer [] repairing.does.sought (λ device is. is)
+          (All-nil (λ errand. Todo past errand → ⊥)) (λ errand. omega arith) (λ one is. inl (repair-before begun past (Closed asked answer) repairing.heard repair none-stored one is))
 
       -- where the archive was sent, it was stored
-      stored-unrefused : Todo past (Commit target) → (sent : Sent) (told : Option Reply) → Contains past (Told sent told) → HasRefused sent.msg told → Todo past (Store target) → errand_of sent.device sent.msg ≡ Some (Store target) → ⊥
+      stored-unrefused : Todo past (Commit target) → (sent : Sent) (told : Option Reply) → Contains past (Closed sent told) → HasRefused sent.msg told → Todo past (Store target) → errand_of sent.device sent.msg ≡ Some (Store target) → ⊥
       stored-unrefused (inl plain) sent told there refused to_store about = plain-lacking target plain.1 to_store.0
       stored-unrefused (inr (lacking, (bytes, (number, was)))) sent told there refused to_store about =
           let put : Sent = record { ticket = number; device = target.device; msg = message.PutFrag begun.place repair.stamp target.index bytes } in
@@ -130,7 +130,7 @@ module _ (begun : Begun) (past : List Step) (repair : Repair) (due : List Errand
       pub repairing-committed : (b : Bool) → is_lacking repair target.index ≡ b → Repairing begun (now asked answer) (committed_as b repair target.device verdict_is) (due ++ [])
       repairing-committed true is = record {
         heard = repairing.heard;
-        surveyed = surveyed-later begun past (Told asked answer) repairing.heard (no-question begun asked answer (λ same. cc)) repairing.surveyed;
+        surveyed = surveyed-later begun past (Closed asked answer) repairing.heard (no-question begun asked answer (λ same. cc)) repairing.surveyed;
         own = repairing.own;
         lacking = repairing.lacking;
         choices = repairing.choices;
@@ -146,7 +146,7 @@ module _ (begun : Begun) (past : List Step) (repair : Repair) (due : List Errand
       }
       repairing-committed false is = record {
         heard = repairing.heard;
-        surveyed = surveyed-later begun past (Told asked answer) repairing.heard (no-question begun asked answer (λ same. cc)) repairing.surveyed;
+        surveyed = surveyed-later begun past (Closed asked answer) repairing.heard (no-question begun asked answer (λ same. cc)) repairing.surveyed;
         own = repairing.own;
         lacking = repairing.lacking;
         choices = repairing.choices;
@@ -175,7 +175,7 @@ module _ (begun : Begun) (past : List Step) (repair : Repair) (due : List Errand
       -- it was stored just where that is done
       more-due : (one : Verdict) → means ≡ one → All (Todo (now put answer)) (due_after target one)
       more-due verdict.Done is =
-          All-cons (Todo (now put answer)) (Commit target) [] (inr (there, (bytes, (ticket, subst (λ (told : Option Reply). Contains (now put answer) (Told put told)) (stored-done repair.stamp answer is) (here (Told put answer) past)))))
+          All-cons (Todo (now put answer)) (Commit target) [] (inr (there, (bytes, (ticket, subst (λ (told : Option Reply). Contains (now put answer) (Closed put told)) (stored-done repair.stamp answer is) (here (Closed put answer) past)))))
           (All-nil (Todo (now put answer)))
       more-due (verdict.Forbidden floor) is = All-nil (Todo (now put answer))
       more-due (verdict.Missed how) is = All-nil (Todo (now put answer))
@@ -229,14 +229,14 @@ module _ (begun : Begun) (past : List Step) (repair : Repair) (due : List Errand
       pub repairing-stored : Repairing begun (now put answer) (stored repair target means) (due ++ due_after target means)
       repairing-stored = record {
         heard = repairing.heard;
-        surveyed = surveyed-later begun past (Told put answer) repairing.heard (no-question begun put answer (λ same. cc)) repairing.surveyed;
+        surveyed = surveyed-later begun past (Closed put answer) repairing.heard (no-question begun put answer (λ same. cc)) repairing.surveyed;
         own = repairing.own;
         lacking = repairing.lacking;
         choices = repairing.choices;
         listed = repairing.listed;
-        does = does-told begun repair.stamp (Todo past) (Todo (now put answer)) past due repairing.does (repair-later begun past (Told put answer) repairing.heard repair) put answer (due_after target means)
+        does = does-told begun repair.stamp (Todo past) (Todo (now put answer)) past due repairing.does (repair-later begun past (Closed put answer) repairing.heard repair) put answer (due_after target means)
             (more-due means refl) by-due;
-        once = once-told begun repair.stamp (Todo past) (Todo (now put answer)) past due repairing.once (repair-later begun past (Told put answer) repairing.heard repair) put answer (due_after target means) repairing.does.sought
+        once = once-told begun repair.stamp (Todo past) (Todo (now put answer)) past due repairing.once (repair-later begun past (Closed put answer) repairing.heard repair) put answer (due_after target means) repairing.does.sought
             (λ device is. is) (due-new means) (due-once means) by-due;
         commits = repairing.commits ∙ ap {A = ℕ} capped (omega arith);
         rebuilt = repairing.rebuilt ∙ ap {A = ℕ} capped (omega arith);

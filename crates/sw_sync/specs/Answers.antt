@@ -9,7 +9,7 @@ use Rattle.sw_message.specs.Floors.{floors_in}
 use Rattle.sw_message.specs.Message.{IsMember, is_primary}
 use Rattle.sw_message.specs.Miss.{miss_of}
 use Rattle.sw_message.specs.Spoil.{IsAsked, IsOfPlace, IsSpoil}
-use Rattle.sw_message.specs.Transcript.{Step, Told}
+use Rattle.sw_message.specs.Transcript.{Closed, Step}
 use Rattle.sw_message.specs.Warrant.{IsPrimaryOf}
 use Rattle.sw_message.specs.declared.message.Msg.{Msg}
 use Rattle.sw_message.specs.declared.message.Msg.TheVariants as message
@@ -27,7 +27,7 @@ use Rattle.sw_sync.specs.Sync.{Begun}
 
 -- a device answered a message, or it was given up
 abbrev pub WasTold : List Step → (device : ℕ) → Msg → Option Reply → Type 0
-WasTold past device msg answer = (ticket : ℕ) × Contains past (Told (record { ticket = ticket; device = device; msg = msg }) answer)
+WasTold past device msg answer = (ticket : ℕ) × Contains past (Closed (record { ticket = ticket; device = device; msg = msg }) answer)
 
 -- a device listed this
 abbrev pub WasListed : Begun → List Step → (device : ℕ) → ListingModel → Type 0
@@ -141,5 +141,5 @@ pub record MissedFetch (begun : Begun) (past : List Step) (stamp : ℕ) (source 
   pub before : List Step
   pub ticket : ℕ
   pub answer : Option Reply
-  pub told : past ≡ later ++ Told (record { ticket = ticket; device = source.device; msg = message.Fetch begun.place stamp source.index }) answer ∷ before
+  pub told : past ≡ later ++ Closed (record { ticket = ticket; device = source.device; msg = message.Fetch begun.place stamp source.index }) answer ∷ before
   pub missed : IsMissedFetch begun before stamp source.index answer how

@@ -8,7 +8,7 @@ use Rattle.sw_archive.specs.Archive.{ArchiveModel}
 use Rattle.sw_message.specs.Floors.{durable_at, floors_in, refuses, stands_above, tombstone_floor}
 use Rattle.sw_message.specs.Message.{is_primary}
 use Rattle.sw_message.specs.Miss.{miss_of}
-use Rattle.sw_message.specs.Transcript.{Gave, Step, Told}
+use Rattle.sw_message.specs.Transcript.{Closed, Gave, Step}
 use Rattle.sw_message.specs.declared.message.Msg.{Msg}
 use Rattle.sw_message.specs.declared.message.Msg.TheVariants as message
 use Rattle.sw_message.specs.declared.miss.Miss.{Miss}
@@ -67,7 +67,7 @@ pub record AreFailures (begun : Begun) (past : List Step) (failed : List Failure
 abbrev pub count_told : (Msg → Option Reply → Bool) → List Step → ℕ
 count_told test [] = 0
 count_told test (Gave sent ∷ past) = count_told test past
-count_told test (Told sent answer ∷ past) = count_told test past + (if test sent.msg answer then 1 else 0)
+count_told test (Closed sent answer ∷ past) = count_told test past + (if test sent.msg answer then 1 else 0)
 
 abbrev pub is_marked : Msg → Option Reply → Bool
 is_marked (message.Delete place stamp) (Some (reply.Deleted existed)) = true

@@ -5,7 +5,7 @@ use Rattle.sw_hashpath.specs.Place.{PlaceModel}
 use Rattle.sw_ring.specs.Cluster.{ClusterModel}
 use Rattle.sw_message.specs.Learnt.{AreKnown, Learnt}
 use Rattle.sw_message.specs.Running.{IsOf}
-use Rattle.sw_message.specs.Transcript.{Hand, IsRun, Step, Told, is_waiting, opens}
+use Rattle.sw_message.specs.Transcript.{Closed, Hand, IsRun, Step, is_waiting, opens}
 use Rattle.sw_message.specs.Warrant.{IsWarranted}
 use Rattle.sw_message.specs.declared.reply.Reply.{Reply}
 use Rattle.sw_message.specs.declared.sent.Sent.{Sent}
@@ -44,7 +44,7 @@ pub record IsOpen (errands : List Errand) (sent : Sent) : Type 0 where
 -- the answers that were not yet read, the first of them told first, lead from one transcript to another
 abbrev pub Lead : List (Unread Errand) → (read past : List Step) → Type 0
 Lead [] read past = past ≡ read
-Lead (unread ∷ later) read past = (sent : Sent) × IsAbout unread.0 sent × Lead later (Told sent unread.1 ∷ read) past
+Lead (unread ∷ later) read past = (sent : Sent) × IsAbout unread.0 sent × Lead later (Closed sent unread.1 ∷ read) past
 
 -- the first answer that is to be read is that to an errand
 abbrev pub BeginsWith : List (Unread Errand) → Errand → Type 0

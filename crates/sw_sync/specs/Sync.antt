@@ -19,7 +19,7 @@ use Rattle.sw_message.specs.Floors.{floors_in, highest, is_above}
 use Rattle.sw_message.specs.Message.{is_primary}
 use Rattle.sw_message.specs.Miss.{miss_of}
 use Rattle.sw_message.specs.Spoil.{IsAsked, IsOfPlace, IsSpoil}
-use Rattle.sw_message.specs.Transcript.{Gave, Hand, Next, Over, Step, Told, Wait, given, is_waiting}
+use Rattle.sw_message.specs.Transcript.{Closed, Gave, Hand, Next, Over, Step, Wait, given, is_waiting}
 use Rattle.sw_message.specs.declared.message.Msg.{Msg}
 use Rattle.sw_message.specs.declared.message.Msg.TheVariants as message
 use Rattle.sw_message.specs.declared.miss.Miss.{Miss}
@@ -418,8 +418,8 @@ pub record Takes (begun : Begun) (before : State) (sent : Sent) (answer : Option
 abbrev pub IsState : Begun → List Step → State → Type 0
 IsState begun [] state = state ≡ settled begun false (beginning begun)
 IsState begun (Gave sent ∷ past) state = (before : State) × IsState begun past before × Hands begun before sent state
-IsState begun (Told sent answer ∷ past) state =
-    (before : State) × IsState begun past before × (after : State) × Takes begun before sent answer after × (state ≡ settled begun (is_waiting (Told sent answer ∷ past)) after)
+IsState begun (Closed sent answer ∷ past) state =
+    (before : State) × IsState begun past before × (after : State) × Takes begun before sent answer after × (state ≡ settled begun (is_waiting (Closed sent answer ∷ past)) after)
 
 abbrev pub next_of : Bool → Next
 next_of true = Wait

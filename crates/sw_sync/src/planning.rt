@@ -21,7 +21,7 @@ use std::collections::VecDeque;
 use sw_gather::{Gathered, candidates, firsts};
 use sw_hashdir::{Floor, FloorKind, Listing};
 use sw_hashpath::Place;
-use sw_message::{Miss, Target, is_above, primaries};
+use sw_message::{Miss, Target, is_above, primaries, total_of};
 use sw_ring::Cluster;
 use sw_types::{Items, NoMemory, Policy, Stamp};
 
@@ -276,14 +276,6 @@ pub(crate) fn asks_of(alloc: Global, devices: &[u16]) -> Result<VecDeque<Errand>
         due.push_back(Errand::Ask(*device))?;
     }
     Ok(due)
-}
-
-// How many indices there are.
-fn total_of(policy: &Policy) -> u32
-    ensures { result ≡ policy.now.k + policy.now.m }
-{
-    prove!(policy.segment() <= Policy::GREATEST_SEGMENT);
-    policy.k() + policy.m()
 }
 
 // A number, or the most where it is greater.

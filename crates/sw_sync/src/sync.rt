@@ -3,7 +3,7 @@
 ghost use Rattle.std.specs.Prelude.{◌≡◌, List, [], IfOk, IfSome, is_some, length, true};
 ghost use Rattle.sw_hashpath.specs.Place.{IsPlace};
 ghost use Rattle.sw_message.specs.Message.{is_primary};
-ghost use Rattle.sw_message.specs.Transcript.{Step, told};
+ghost use Rattle.sw_message.specs.Transcript.{Step, after_answer};
 ghost use Rattle.sw_sync.specs.Standing.{Stands, has_ended};
 ghost use Rattle.sw_sync.specs.Sync.{Begun, IsEnd};
 
@@ -93,7 +93,7 @@ impl<'a> SyncJob<'a> {
 
     // Takes the answer to a ticket, or that there is none. One that is not open is ignored. It takes no memory.
     pub(crate) fn answer(&mut self, ticket: u64, answer: Option<Reply>)
-        ensures stands { (begun : Begun) (past : List Step) → Stands self.old begun past → Stands self.new begun (told past ticket answer) }
+        ensures stands { (begun : Begun) (past : List Step) → Stands self.old begun past → Stands self.new begun (after_answer past ticket answer) }
         ensures state { self.new.state ≡ self.old.state }
         ensures count { length self.new.mailbox.tickets ≡ length self.old.mailbox.tickets }
     {

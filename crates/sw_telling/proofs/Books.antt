@@ -2,7 +2,7 @@
 use Rattle.std.proofs.Common.{◌≡◌, Bool, true, false, true≢false, List, [], ◌∷◌, refl, sym, ap, subst, ◌∙◌}
 use Rattle.sw_message.specs.Learnt.{Learnt}
 use Rattle.sw_message.specs.Running.{AreCalls}
-use Rattle.sw_message.specs.Transcript.{Gave, Step, Told}
+use Rattle.sw_message.specs.Transcript.{Closed, Gave, Step}
 use Rattle.sw_telling.specs.Telling.{Calls, TellingModel, losses}
 use Rattle.sw_telling.proofs.Hearing.{same_book}
 
@@ -16,10 +16,10 @@ speaking false c silent speaks = refl
 
 pub calls_keep : (before after : TellingModel) (past : List Step) → AreCalls Calls losses before past after → KeepsBook before after
 calls_keep before after [] same = subst (KeepsBook before) same (λ speaks. (speaks, refl))
-calls_keep before after (Told sent answer ∷ Gave given ∷ past) (between, earlier, same, call, counts) = λ speaks.
+calls_keep before after (Closed sent answer ∷ Gave given ∷ past) (between, earlier, same, call, counts) = λ speaks.
     let spoke = speaking between.is_silent after.is_silent call.learns.silent speaks in
     let kept = calls_keep before between past earlier spoke in
     (kept.0, ap (λ (known : Learnt). known.book) (call.learns.known_is speaks) ∙ same_book between.known sent.device sent.msg answer ∙ kept.1)
-calls_keep before after (Told sent answer ∷ Told other again ∷ past) none = absurd none
-calls_keep before after (Told sent answer ∷ []) none = absurd none
+calls_keep before after (Closed sent answer ∷ Closed other again ∷ past) none = absurd none
+calls_keep before after (Closed sent answer ∷ []) none = absurd none
 calls_keep before after (Gave sent ∷ past) none = absurd none

@@ -10,12 +10,12 @@ use Rattle.sw_message.specs.Learnt.{Booked, Keeps, Learnt, Marked}
 use Rattle.sw_message.specs.Running.{Draws, LearnsOwn, StillTells}
 use Rattle.sw_message.specs.Soundly.{is_sound_learnt, stamps_of, stamps_of_book, stamps_of_marks}
 use Rattle.sw_message.proofs.Soundly.{learnt-more_deletes, learnt-more_puts}
-use Rattle.sw_nodes.specs.Nodes.{devices_of}
-use Rattle.sw_scene.specs.Disks.{Sure}
-use Rattle.sw_scene.specs.Filed.{AreFiled, FoldersFiled}
-use Rattle.sw_scene.specs.Moves.{next_stamp}
-use Rattle.sw_scene.specs.Sound.{IsDrawn}
-use Rattle.sw_scene.proofs.Knowledge.{disk_kept}
+use Rattle.sw_sim_nodes.specs.Nodes.{devices_of}
+use Rattle.sw_law_scene.specs.Disks.{Sure}
+use Rattle.sw_law_scene.specs.Filed.{AreFiled, FoldersFiled}
+use Rattle.sw_law_scene.specs.Moves.{next_stamp}
+use Rattle.sw_law_scene.specs.Sound.{IsDrawn}
+use Rattle.sw_law_scene.proofs.Knowledge.{disk_kept}
 use Rattle.sw_telling.specs.Telling.{IsTelling, Tells, TellingModel, learnt_by, with_own}
 use Rattle.sw_telling.proofs.Tells.{silent_none, still_by, tells_all}
 

@@ -10,11 +10,11 @@ use Rattle.sw_message.specs.Warrant.{IsWarranted}
 use Rattle.sw_message.specs.declared.message.Msg.{Msg}
 use Rattle.sw_message.specs.declared.reply.Reply.{Reply}
 use Rattle.sw_ring.specs.Cluster.{KeepsRules}
-use Rattle.sw_nodes.specs.Nodes as nodes
-use Rattle.sw_nodes.specs.Nodes.{MemNode, NodesModel, devices_of}
-use Rattle.sw_scene.specs.Filed.{AreFiled}
-use Rattle.sw_scene.proofs.Filed.{filed, genuine}
-use Rattle.sw_scene.proofs.Knowledge.{genuine_kept}
+use Rattle.sw_sim_nodes.specs.Nodes as nodes
+use Rattle.sw_sim_nodes.specs.Nodes.{MemNode, NodesModel, devices_of}
+use Rattle.sw_law_scene.specs.Filed.{AreFiled}
+use Rattle.sw_law_scene.proofs.Filed.{filed, genuine}
+use Rattle.sw_law_scene.proofs.Knowledge.{genuine_kept}
 use Rattle.sw_telling.specs.Telling.{IsTelling, Tells, TellingModel, learnt_by, with_reply}
 use Rattle.sw_telling.proofs.Tells.{silent_none, sound_book, still_by, tells_all}
 

@@ -11,7 +11,7 @@ use Rattle.sw_get.specs.declared.end.GetEnd.{GetEnd}
 use Rattle.sw_get.specs.declared.end.GetEnd.TheVariants.{Found}
 use Rattle.sw_put.specs.declared.end.PutEnd.{PutEnd}
 use Rattle.sw_front.specs.Over.{FindsOnePut, IfFound}
-use Rattle.sw_scene.specs.Moves.{next_stamp}
+use Rattle.sw_law_scene.specs.Moves.{next_stamp}
 use Rattle.sw_telling.specs.Shown.{IsNew, IsThatPut, PutAndGot}
 use Rattle.sw_telling.specs.Telling.{TellingModel, with_own}
 use Rattle.sw_telling.proofs.Books.{calls_keep}

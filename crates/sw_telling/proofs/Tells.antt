@@ -6,7 +6,7 @@ use Rattle.sw_message.specs.Running.{StillTells}
 use Rattle.sw_message.specs.Soundly.{is_sound_learnt}
 use Rattle.sw_message.proofs.Soundly.{learnt-sound, told-passed}
 use Rattle.sw_types.specs.declared.memory.NoMemory.{NoMemory}
-use Rattle.sw_nodes.specs.Nodes.{NodesModel, Stops}
+use Rattle.sw_sim_nodes.specs.Nodes.{NodesModel, Stops}
 use Rattle.sw_telling.specs.Telling.{IsTelling, Tells, TellingModel, learnt_by}
 
 module _ (telling : TellingModel) where

@@ -6,7 +6,7 @@ use Rattle.sw_types.specs.Object.{ObjectModel}
 use Rattle.sw_types.specs.Policy.{PolicyModel}
 use Rattle.sw_ring.specs.Cluster.{ClusterModel}
 use Rattle.sw_message.specs.declared.target.Target.{Target}
-use Rattle.sw_nodes.specs.Nodes.{devices_of}
+use Rattle.sw_sim_nodes.specs.Nodes.{devices_of}
 use Rattle.sw_put.specs.declared.end.PutEnd.{PutEnd}
 use Rattle.sw_get.specs.declared.end.GetEnd.{GetEnd}
 use Rattle.sw_front.specs.Over.{GetsOver, PutsOver}

@@ -10,11 +10,11 @@ use Rattle.sw_message.specs.Soundly.{is_sound_learnt, stamps_of, told_soundly}
 use Rattle.sw_message.specs.declared.draw.DrawFault.{DrawFault}
 use Rattle.sw_message.specs.declared.message.Msg.{Msg}
 use Rattle.sw_message.specs.declared.reply.Reply.{Reply}
-use Rattle.sw_nodes.specs.Nodes as nodes
-use Rattle.sw_nodes.specs.Nodes.{NodesModel, devices_of}
-use Rattle.sw_scene.specs.Filed.{AreFiled}
-use Rattle.sw_scene.specs.Moves.{next_stamp}
-use Rattle.sw_scene.specs.Sound.{IsDrawn}
+use Rattle.sw_sim_nodes.specs.Nodes as nodes
+use Rattle.sw_sim_nodes.specs.Nodes.{NodesModel, devices_of}
+use Rattle.sw_law_scene.specs.Filed.{AreFiled}
+use Rattle.sw_law_scene.specs.Moves.{next_stamp}
+use Rattle.sw_law_scene.specs.Sound.{IsDrawn}
 
 pub record TellingModel : Type 0 where
   pub nodes : NodesModel

@@ -1,8 +1,8 @@
 //! A link that tells what it has learnt.
 
 ghost use Rattle.std.specs.Prelude.{◌≡◌, false, true, IfOk, OnErr, OnOk, Some};
-ghost use Rattle.sw_nodes.specs.Nodes.{Stops};
-ghost use Rattle.sw_scene.specs.Moves.{next_stamp};
+ghost use Rattle.sw_sim_nodes.specs.Nodes.{Stops};
+ghost use Rattle.sw_law_scene.specs.Moves.{next_stamp};
 ghost use Rattle.sw_telling.specs.Shown.{IsNew};
 ghost use Rattle.sw_telling.specs.Telling.{Calls, Draws, learnt_by, losses};
 
@@ -10,8 +10,8 @@ use crate::known::Known;
 use std::alloc::Global;
 use std::marker::Model;
 use sw_message::{Draw, DrawFault, Link, Msg, Reply};
-use sw_nodes::Nodes;
 use sw_ring::Cluster;
+use sw_sim_nodes::Nodes;
 use sw_types::{Name, NoMemory, Object, Stamp};
 
 /// The nodes of a cluster, as a link that draws stamps and tells what it has learnt: each put, each delete and each reply since its

@@ -4,7 +4,7 @@ use Rattle.sw_ring.specs.Cluster.{ClusterModel, IsCluster, KeepsRules}
 use Rattle.sw_ring.specs.Members.{RingMembers}
 use Rattle.sw_ring.specs.declared.fault.RingFault.{RingFault}
 use Rattle.sw_script.specs.Line.{lines_of}
-use Rattle.sw_world.specs.Scripted.{empty_script}
+use Rattle.sw_sim_world.specs.ScriptedWorld.{empty_script}
 use Rattle.sw_play.specs.Play.{IsRun}
 use Rattle.sw_play.specs.declared.playing.PlayEnd.{PlayEnd}
 use Rattle.sw_play.specs.declared.playing.PlayEnd.TheVariants as ended

@@ -7,8 +7,8 @@ use Rattle.sw_ring.specs.Members.{RingMembers}
 use Rattle.sw_ring.specs.declared.fault.RingFault.{RingFault}
 use Rattle.sw_script.specs.Line.{lines_of}
 use Rattle.sw_play.specs.Play.{IsRun, Played}
-use Rattle.sw_world.specs.Scripted.{Scripted, empty_script}
-use Rattle.sw_world.specs.Standing.{WorldModel}
+use Rattle.sw_sim_world.specs.ScriptedWorld.{ScriptedWorld, empty_script}
+use Rattle.sw_sim_world.specs.Standing.{WorldModel}
 use Rattle.sw_play.proofs.Stopped.{stopped}
 use Rattle.sw_play.specs.declared.playing.PlayEnd.{PlayEnd}
 use Rattle.sw_play.specs.declared.playing.PlayEnd.TheVariants as ended
@@ -29,7 +29,7 @@ answers_by one other answer given by = record {
 -- ---- a script over a fresh world
 
 -- a run is one that want of memory ended there
-stopped_run : (before : Scripted) (lines : List (List ℕ)) (end : PlayEnd) (text : List ℕ) → IsRun before lines end text → IsRun before lines ended.NoMemory text
+stopped_run : (before : ScriptedWorld) (lines : List (List ℕ)) (end : PlayEnd) (text : List ℕ) → IsRun before lines end text → IsRun before lines ended.NoMemory text
 stopped_run before lines end text run = record {
   story = run.story;
   after = run.after;

@@ -7,7 +7,7 @@ use Rattle.sw_ring.specs.Numbered.{ring_fault_number}
 use Rattle.sw_ring.specs.declared.fault.RingFault.{RingFault}
 use Rattle.sw_script.specs.Line.{line_fault_number, lines_of}
 use Rattle.sw_play.specs.Play.{IsRun}
-use Rattle.sw_world.specs.Scripted.{empty_script}
+use Rattle.sw_sim_world.specs.ScriptedWorld.{empty_script}
 use Rattle.sw_play.specs.declared.playing.PlayEnd.{PlayEnd}
 use Rattle.sw_play.specs.declared.playing.PlayEnd.TheVariants as ended
 use Rattle.swift_main.specs.declared.status.Status.{Status}

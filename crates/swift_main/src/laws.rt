@@ -7,7 +7,7 @@ ghost use Rattle.swift_main.specs.Seen.{SourceSeen};
 ghost use Rattle.swift_main.specs.declared.status.Status.{Status as AStatus};
 ghost use Rattle.swift_main.specs.declared.status.Status.TheVariants.{NoMemory};
 
-use sw_determined::cluster_law;
+use sw_law_determined::cluster_law;
 use sw_play::text_law;
 
 /// An input gives `play` one status and one text at most, unless memory is wanted.

@@ -3,8 +3,8 @@
 ghost use Rattle.std.specs.Prelude.{◌≡◌, ◌≤◌, ◌++◌, Err, IfErr, IfOk, length};
 ghost use Rattle.sw_words.specs.Memory.{UnlessMemory};
 ghost use Rattle.sw_play.specs.Play.{greatest_script};
-ghost use Rattle.sw_world.specs.Standing.{StandsFor};
-ghost use Rattle.sw_world.specs.Scripted.{empty_script};
+ghost use Rattle.sw_sim_world.specs.Standing.{StandsFor};
+ghost use Rattle.sw_sim_world.specs.ScriptedWorld.{empty_script};
 ghost use Rattle.sw_ring.specs.Cluster.{ring_of};
 ghost use Rattle.swift_main.specs.Answer.{IsAnswer, IsAnswerBy, IsLastLine};
 ghost use Rattle.swift_main.specs.Input.{ring_text};
@@ -18,8 +18,8 @@ use std::alloc::Global;
 use sw_io::{Sink, Source};
 use sw_play::{PlayEnd, play};
 use sw_ring::RingFault;
+use sw_sim_world::World;
 use sw_types::{Bytes, NoMemory};
-use sw_world::World;
 
 /// A status and all that is to be written.
 #[derive(Debug, Drop)]

@@ -1,13 +1,7 @@
-//! Rings, bodies, folders and gets that are larger than those of the other tests.
+//! Rings, folders and gets that are larger than those of the other tests.
 
-use crate::pass_tests::put;
 use crate::tests::expect_done;
-use std::alloc::Global;
 use std::test::Fail;
-use sw_get::{GetEnd, GetOp};
-use sw_nodes::{Nodes, run_alone};
-use sw_ring::{Cluster, built_in};
-use sw_types::Name;
 
 // Ten of twenty fragments make a body, and each device has one.
 const TWENTY: &str =
@@ -45,31 +39,4 @@ fn keeps_a_thousand_names_in_a_folder(rt: HostRuntime) -> Result<(), Fail> {
     text.push_str("e 1102 found 1000000000.01100 62 0\n")?;
     text.push_str("s 0 0 1000000000.01100 durable 62\n")?;
     expect_done(&rt, alloc, PAIR, &script, &text)
-}
-
-// A body of so many bytes, no two neighbouring segments of which are the same.
-fn long_body(alloc: Global, length: u32) -> Result<Vec<u8>, Fail> {
-    let mut body = Vec::with_capacity(alloc, length as usize)?;
-    for i in 0..length {
-        body.push((i % 251) as u8)?;
-    }
-    Ok(body)
-}
-
-// Five times 2^20 bytes, in five segments.
-#[test]
-fn keeps_a_body_of_five_mebibytes(rt: HostRuntime) -> Result<(), Fail> {
-    let alloc = rt.alloc();
-    let cluster = Cluster::read(alloc, built_in())?;
-    let mut nodes = Nodes::new(alloc, &cluster)?;
-    let body = long_body(alloc, 5_242_880)?;
-    put(alloc, &mut nodes, &body)?;
-    let name = Name::make(alloc, b"a", b"c", b"o")?;
-    let mut get = GetOp::begin(alloc, nodes.cluster(), &name)?;
-    run_alone(&mut get, &mut nodes)?;
-    let Some(GetEnd::Found { object, .. }) = get.into_end() else {
-        return Err("not found".into());
-    };
-    assert!(rt; object.body().as_slice() == body.as_slice());
-    Ok(())
 }

@@ -8,8 +8,8 @@ use sw_io::{MemClock, MemDoors, MemSink, MemSource, OpenGate};
 use sw_memshelf::MemShelf;
 use sw_play::{GREATEST_SCRIPT, PlayEnd, play};
 use sw_ring::{Cluster, built_in};
+use sw_sim_world::World;
 use sw_types::{Bytes, Stamp};
-use sw_world::World;
 
 const USAGE: &str = "usage: play | serve PORT WORKERS | load N\n";
 

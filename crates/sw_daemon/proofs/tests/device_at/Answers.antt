@@ -8,5 +8,5 @@ pub returns : goal.returns
 returns c =
     let devices = c.devices-devices.result.now in
     let none : Device = record { id = 0; capacity = 0 } in
-    subst (λ (these : List Device). is_among (map (λ (one : Device). one.id) these) (get_or devices c.args.place none).id ≡ true) c.devices-devices.ensures.listed
-    (member_at devices c.args.place none c.if-place-devices.false)
+    subst (λ (these : List Device). is_among (map (λ (one : Device). one.id) these) (get_or devices c.args.slot none).id ≡ true) c.devices-devices.ensures.listed
+    (member_at devices c.args.slot none c.if-slot-devices.false)

@@ -20,8 +20,8 @@ use Rattle.sw_direct.proofs.mounting.mount_all.Goals as goal
 abbrev Items : (g : Over) → Type 0
 Items g = List (NodeModel g.row.F-Disk.Denot)
 
-count : (g : Over) (cluster : ClusterModel) (items : List Device) (place : ℕ) (nodes : Items g) → place ≤ length items → AreSoFar g.F.Disk.Disk.seen g.F.Disk.Disk.left_since g.F.Shelf.hands cluster (take place items) nodes → length nodes ≡ place
-count g cluster items place nodes within are = as_many g.F.Disk.Disk.seen g.F.Disk.Disk.left_since g.F.Shelf.hands cluster (take place items) nodes are.mounted ∙ length-take-le place items within
+count : (g : Over) (cluster : ClusterModel) (items : List Device) (slot : ℕ) (nodes : Items g) → slot ≤ length items → AreSoFar g.F.Disk.Disk.seen g.F.Disk.Disk.left_since g.F.Shelf.hands cluster (take slot items) nodes → length nodes ≡ slot
+count g cluster items slot nodes within are = as_many g.F.Disk.Disk.seen g.F.Disk.Disk.left_since g.F.Shelf.hands cluster (take slot items) nodes are.mounted ∙ length-take-le slot items within
 
 abbrev nowhere : Device
 nowhere = record { id = 0; capacity = 0 }
@@ -114,25 +114,25 @@ pub returns-clause-quiet : goal.returns-clause-quiet
 returns-clause-quiet g c = c.each.invariant.faults
 
 -- so many devices, of those that are listed
-of_devices : (g : Over) (cluster : ClusterModel) (items : List Device) (place : ℕ) (nodes : Items g) → items ≡ cluster.devices → length nodes ≡ place → AreSoFar g.F.Disk.Disk.seen g.F.Disk.Disk.left_since g.F.Shelf.hands cluster (take place items) nodes
+of_devices : (g : Over) (cluster : ClusterModel) (items : List Device) (slot : ℕ) (nodes : Items g) → items ≡ cluster.devices → length nodes ≡ slot → AreSoFar g.F.Disk.Disk.seen g.F.Disk.Disk.left_since g.F.Shelf.hands cluster (take slot items) nodes
     → AreMounted g.F.Disk.Disk.seen g.F.Disk.Disk.left_since g.F.Shelf.hands cluster (take (length nodes) cluster.devices) nodes
-of_devices g cluster items place nodes listed so_many are = rw so_many (subst (λ (devices : List Device). AreMounted g.F.Disk.Disk.seen g.F.Disk.Disk.left_since g.F.Shelf.hands cluster (take place devices) nodes) listed are.mounted)
+of_devices g cluster items slot nodes listed so_many are = rw so_many (subst (λ (devices : List Device). AreMounted g.F.Disk.Disk.seen g.F.Disk.Disk.left_since g.F.Shelf.hands cluster (take slot devices) nodes) listed are.mounted)
 
 pub returns-in-Err-clause-came_back : goal.returns-in-Err-clause-came_back
 returns-in-Err-clause-came_back g c =
     let items = c.devices-device-items.result.now in
-    let place = c.each.device-index in
-    let device = get_or items place nowhere in
+    let slot = c.each.device-index in
+    let device = get_or items slot nowhere in
     let listed = c.devices-device-items.ensures.listed in
     let failed = c.in-Err.ensures.came_back.0 in
-    let so_many = count g c.args.cluster.now items place c.each.nodes.items (omega arith) c.each.invariant.so_far in
-    let next = is_of_first g.F.Disk.Disk.seen g.F.Disk.Disk.left_since g.F.Shelf.hands c.args.cluster.now device (drop (place + 1) items) failed c.in-Err.ensures.came_back.1 in
+    let so_many = count g c.args.cluster.now items slot c.each.nodes.items (omega arith) c.each.invariant.so_far in
+    let next = is_of_first g.F.Disk.Disk.seen g.F.Disk.Disk.left_since g.F.Shelf.hands c.args.cluster.now device (drop (slot + 1) items) failed c.in-Err.ensures.came_back.1 in
     record {
       nodes = c.each.nodes.items;
-      mounted = of_devices g c.args.cluster.now items place c.each.nodes.items listed so_many c.each.invariant.so_far;
+      mounted = of_devices g c.args.cluster.now items slot c.each.nodes.items listed so_many c.each.invariant.so_far;
       failed = one_of device.id failed;
       of_first = rw so_many (subst (λ (devices : List Device). IsOfFirst g.F.Disk.Disk.seen g.F.Disk.Disk.left_since g.F.Shelf.hands c.args.cluster.now devices (one_of device.id failed))
-          (sym (drop_more items place nowhere c.each-test.true) ∙ ap (drop place) listed) next);
+          (sym (drop_more items slot nowhere c.each-test.true) ∙ ap (drop slot) listed) next);
       back = c.hand_back_first.ensures.back ∙ ap (λ (returned : Option (List (ℕ × g.row.F-Disk.Denot))). with_all returned (disks_of c.each.nodes.items)) c.in-Err.ensures.came_back.2
           ∙ all_in_turn _ _ _ ∙ ap (λ (returned : Option (List (ℕ × g.row.F-Disk.Denot))). with_all returned (one_of device.id failed ++ disks_of c.each.nodes.items)) c.each.invariant.returned;
     }

@@ -1,5 +1,5 @@
 use Rattle.std.proofs.Common.{◌<◌, ◌^◌, arith}
-use Rattle.sw_hashpath.specs.Laws.{high_bits}
+use Rattle.sw_hashpath.proofs.Laws.{high_bits}
 use Rattle.sw_hashpath.proofs.place.place_of.Goals as goal
 
 pub returns-clause-below : goal.returns-clause-below

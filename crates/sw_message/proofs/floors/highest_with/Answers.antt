@@ -1,6 +1,6 @@
 use Rattle.std.proofs.Common.{true, false, Some, map, sym, ap, ◌∙◌}
 use Rattle.std.proofs.lemmas.List.{take_all}
-use Rattle.sw_message.specs.FloorLaws.{highest_from-append}
+use Rattle.sw_message.proofs.FloorLaws.{highest_from-append}
 use Rattle.sw_message.specs.Floors.{durable_floor, higher, highest_from, tombstone_floor}
 use Rattle.sw_message.proofs.Highest.{entry_floors, next_entry, next_stamp}
 use Rattle.sw_message.proofs.floors.highest_with.Goals as goal

@@ -6,7 +6,7 @@ use Rattle.sw_message.specs.Table.{HandlesFetch}
 use Rattle.sw_message.specs.declared.reply.Reply.TheVariants.{Gone}
 use Rattle.sw_objsrv.proofs.AfterLook.{directory_looked, handles_at_once, has_file, keeps_after}
 use Rattle.sw_objsrv.proofs.Fetched.{fetched, stops_read}
-use Rattle.sw_hashdir.specs.Laws.{entry_there}
+use Rattle.sw_hashdir.proofs.Laws.{entry_there}
 use Rattle.sw_objsrv.proofs.reading.fetch.Goals as goal
 
 pub returns-in_default-clause-handles : goal.returns-in_default-clause-handles

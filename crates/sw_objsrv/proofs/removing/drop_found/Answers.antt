@@ -10,7 +10,7 @@ use Rattle.sw_objsrv.specs.Changing.{LeavesOrder}
 use Rattle.sw_objsrv.proofs.AfterLook.{has_file}
 use Rattle.sw_objsrv.proofs.Ended.{ok_from}
 use Rattle.sw_objsrv.proofs.Floors.{floors_again}
-use Rattle.sw_hashdir.specs.Laws.{entry_there}
+use Rattle.sw_hashdir.proofs.Laws.{entry_there}
 use Rattle.sw_objsrv.proofs.InOrder.{order_left}
 use Rattle.sw_objsrv.proofs.removing.drop_found.Goals as goal
 

@@ -6,7 +6,7 @@ use Rattle.std.proofs.lemmas.Option.{get_or_from_slice_get, slice_get_within}
 use Rattle.sw_ring.specs.Cluster.{column_of, handoffs_of}
 use Rattle.sw_ring.specs.Ring.{is_among}
 use Rattle.sw_message.specs.Message.{IsMember}
-use Rattle.sw_quorum.specs.Places.{handoffs_apart, handoffs_known}
+use Rattle.sw_quorum.proofs.Places.{handoffs_apart, handoffs_known}
 use Rattle.sw_recon.proofs.tests.begun.Goals as goal
 use Rattle.sw_recon.proofs.tests.begun.Goals.{In-Some}
 

@@ -1,7 +1,7 @@
 -- The partition is one of those that there are, and has few primaries.
 use Rattle.std.proofs.Common.{◌<◌, ◌^◌, length, sym, ap, subst, ◌∙◌, arith}
-use Rattle.sw_hashpath.specs.Laws.{part_below}
-use Rattle.sw_quorum.specs.Places.{primaries_few}
+use Rattle.sw_hashpath.proofs.Laws.{part_below}
+use Rattle.sw_quorum.proofs.Places.{primaries_few}
 use Rattle.sw_sync.proofs.planning.plan.Goals as goal
 
 pub primaries-requires : goal.primaries-requires

@@ -1,6 +1,6 @@
 -- The partition is one of those that there are.
 use Rattle.std.proofs.Common.{◌<◌, ◌^◌, sym, subst, ◌∙◌}
-use Rattle.sw_hashpath.specs.Laws.{part_below}
+use Rattle.sw_hashpath.proofs.Laws.{part_below}
 use Rattle.sw_sync.proofs.stepping.advance.Goals as goal
 
 pub primaries-requires : goal.primaries-requires

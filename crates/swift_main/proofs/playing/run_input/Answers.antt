@@ -1,7 +1,7 @@
 use Rattle.std.proofs.Common.{sym, subst}
 use Rattle.sw_ring.specs.Cluster.{ClusterModel}
-use Rattle.sw_world.specs.Scripted.{empty_script}
-use Rattle.sw_world.specs.Standing.{StandsFor}
+use Rattle.sw_sim_world.specs.ScriptedWorld.{empty_script}
+use Rattle.sw_sim_world.specs.Standing.{StandsFor}
 use Rattle.swift_main.proofs.playing.run_input.Goals as goal
 use Rattle.swift_main.proofs.Outcomes.{ring_answers}
 

@@ -1,4 +1,4 @@
-use Rattle.sw_world.specs.Scripted.{empty_script}
+use Rattle.sw_sim_world.specs.ScriptedWorld.{empty_script}
 use Rattle.sw_play.specs.declared.playing.PlayEnd.TheVariants as ended
 use Rattle.swift_main.proofs.Outcomes.{script_answers}
 use Rattle.swift_main.proofs.playing.run_script.Goals as goal

@@ -1,9 +1,9 @@
 -- An answer to an open message is taken, and another is ignored.
 use Rattle.std.proofs.Common.{◌≡◌, ◌++◌, ◌||◌, [], ◌∷◌, refl, sym, ap, subst, ◌∙◌, arith}
-use Rattle.sw_message.specs.Transcript.{open_at, told}
-use Rattle.sw_quorum.specs.DueLaws.{never-open}
+use Rattle.sw_message.specs.Transcript.{after_answer, open_at}
+use Rattle.sw_quorum.proofs.DueLaws.{never-open}
 use Rattle.sw_quorum.specs.Tally.{counts_of}
-use Rattle.sw_quorum.specs.Transcripts.{none_at, some_at, told-ignored}
+use Rattle.sw_quorum.proofs.Transcripts.{none_at, some_at, told-ignored}
 use Rattle.sw_quorum.specs.declared.verdict.Verdict.{Verdict}
 use Rattle.sw_delete.specs.Delete.{delete_message, due, says_existed}
 use Rattle.sw_delete.specs.Inside.{delete_seen}
@@ -39,7 +39,7 @@ returns-then-close-clause-stands c = λ begun past stands.
 pub invariant_of-self : goal.invariant_of-self
 invariant_of-self c =
     let stood = c.self.invariant.0 in (
-      (stood.0, told stood.1 c.args.ticket c.args.answer, returns-then-close-clause-stands c stood.0 stood.1 (subst (λ (delete : DeleteModel). Stands delete stood.0 stood.1) c.self.view_is stood.2)),
+      (stood.0, after_answer stood.1 c.args.ticket c.args.answer, returns-then-close-clause-stands c stood.0 stood.1 (subst (λ (delete : DeleteModel). Stands delete stood.0 stood.1) c.self.view_is stood.2)),
       omega (arith, c.take.ensures.room, c.self.invariant.1),
     )
 
@@ -55,7 +55,7 @@ invariant_of-self-else-close c =
     let none = none_at (open_at c.args.ticket stood.1) (sym (c.if-close.ensures.was_open stood.1 stood.2.tickets_are)) in (
       (
         stood.0,
-        told stood.1 c.args.ticket c.args.answer,
+        after_answer stood.1 c.args.ticket c.args.answer,
         stands_ignored (delete_seen c.self.inside) stood.0 stood.1 stood.2 _ c.args.ticket c.args.answer none (c.if-close.ensures.goes_on stood.1 c.args.answer stood.2.tickets_are),
       ),
       c.self.invariant.1,

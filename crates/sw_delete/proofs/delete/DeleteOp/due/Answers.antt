@@ -1,7 +1,7 @@
 -- Behind the primaries stand the handoffs, as many as there are misses.
 use Rattle.std.proofs.Common.{◌≡◌, ◌-◌, ◌≤◌, ◌<◌, length, sym, ap, ◌∙◌, arith}
 use Rattle.std.specs.List.{slice_get}
-use Rattle.sw_quorum.specs.Lookups.{looked-up}
+use Rattle.sw_quorum.proofs.Lookups.{looked-up}
 use Rattle.sw_delete.proofs.Changes.{due_is, due_seen}
 use Rattle.sw_delete.proofs.Dues.{none-beyond, rest-beyond}
 use Rattle.sw_delete.proofs.delete.DeleteOp.due.Goals as goal

@@ -1,7 +1,7 @@
 -- There are few devices.
 use Rattle.std.proofs.Common.{ℕ, length, ap, arith}
-use Rattle.sw_quorum.specs.Laws.{counts-within}
-use Rattle.sw_quorum.specs.Places.{handoffs_few, primaries_few}
+use Rattle.sw_quorum.proofs.Laws.{counts-within}
+use Rattle.sw_quorum.proofs.Places.{handoffs_few, primaries_few}
 use Rattle.sw_quorum.specs.Tally.{Counts}
 use Rattle.sw_delete.specs.Delete.{deletes, place_of}
 use Rattle.sw_delete.proofs.Dues.{due-few}

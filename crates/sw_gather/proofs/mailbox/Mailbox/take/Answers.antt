@@ -2,8 +2,8 @@
 use Rattle.std.proofs.Common.{◌≡◌, inl, inr, ◌+◌, ◌++◌, List, length, length-append, deque_capacity, true, false, None, sym, ap, subst, ◌∙◌, arith}
 use Rattle.std.specs.List.{slice_get}
 use Rattle.std.proofs.lemmas.Bool.{cases_Bool}
-use Rattle.sw_message.specs.Transcript.{Step, told}
-use Rattle.sw_quorum.specs.Lookups.{looked-up}
+use Rattle.sw_message.specs.Transcript.{Step, after_answer}
+use Rattle.sw_quorum.proofs.Lookups.{looked-up}
 use Rattle.sw_gather.specs.Mailbox.{GoesWith, MailboxModel, answer_to}
 use Rattle.sw_gather.specs.MailboxInside.{mailbox_seen}
 use Rattle.sw_gather.specs.declared.mailbox.Mailbox.TheInside.{Inside}
@@ -52,7 +52,7 @@ cases g c =
 abbrev after : (g : given.Over) → goal.After-push_answer g → MailboxModel g.row.E.Denot
 after g c = mailbox_seen (record { tickets = c.if-close.self-inside.tickets; errands = c.if-close.self-inside.errands; waiting = c.if-close.self-inside.waiting; unread = c.push_answer.new.unread })
 
-goes_after : (g : given.Over) (c : goal.After-push_answer g) (past : List Step) → GoesWith (mailbox_seen c.self.inside) past → GoesWith (after g c) (told past c.args.ticket c.args.answer)
+goes_after : (g : given.Over) (c : goal.After-push_answer g) (past : List Step) → GoesWith (mailbox_seen c.self.inside) past → GoesWith (after g c) (after_answer past c.args.ticket c.args.answer)
 goes_after g c past goes =
     let case = cases g c in
     let before = mailbox_seen c.self.inside in
@@ -87,7 +87,7 @@ invariant_of-self g c =
     let more = answer_to c.if-close.errand c.args.answer in
     let length_is : length c.push_answer.new.unread.items ≡ length c.self.inside.unread.items + length more =
     omega (arith, ap length c.push_answer.ensures.items, length-append c.if-close.self-inside.unread.items more, ap length case.unread) in (
-      (told known.0 c.args.ticket c.args.answer, goes_after g c known.0 known.1),
+      (after_answer known.0 c.args.ticket c.args.answer, goes_after g c known.0 known.1),
       elim (cases_Bool c.close.result) [
         | inl is ↦ omega (arith, length_is, at_most_one c.if-close.errand c.args.answer, (case.opened is).0, c.push_answer.ensures.capacity, case.room, c.self.invariant.1)
         | inr is ↦ omega (arith, length_is, ap (λ errand. length (answer_to errand c.args.answer)) (case.other is).1, (case.other is).0, c.push_answer.ensures.capacity, case.room, c.self.invariant.1)

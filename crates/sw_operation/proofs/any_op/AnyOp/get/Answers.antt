@@ -1,4 +1,4 @@
-use Rattle.sw_core.specs.Operating.{Get}
+use Rattle.sw_operation.specs.Operating.{Get}
 use Rattle.sw_operation.specs.declared.any_op.AnyOp.TheVariants as any
 use Rattle.sw_operation.proofs.Fresh.{fresh}
 use Rattle.sw_operation.proofs.any_op.AnyOp.get.Goals as goal

@@ -1,5 +1,5 @@
 use Rattle.std.proofs.Common.{subst}
-use Rattle.sw_told.specs.declared.end.OpEnd.TheVariants as end
+use Rattle.sw_operation.specs.declared.end.OpEnd.TheVariants as end
 use Rattle.sw_operation.specs.Ends.{IsEndOf}
 use Rattle.sw_operation.specs.Standing.{Stands}
 use Rattle.sw_operation.proofs.Begun.{of_delete, of_get, of_head, of_put}

@@ -3,8 +3,8 @@ use Rattle.std.proofs.Common.{◌≡◌, ◌<◌, inl, inr, List, length, None, 
 use Rattle.std.specs.List.{slice_get}
 use Rattle.std.proofs.lemmas.Bool.{ltb-false, ltb-true}
 use Rattle.sw_message.specs.Transcript.{Over, Step, given}
-use Rattle.sw_quorum.specs.DueLaws as laws
-use Rattle.sw_quorum.specs.Transcripts.{told_count}
+use Rattle.sw_quorum.proofs.DueLaws as laws
+use Rattle.sw_quorum.specs.Transcripts.{closed_count}
 use Rattle.sw_put.specs.Inside.{put_seen}
 use Rattle.sw_put.specs.Put.{Begun, due, put_message, put_next}
 use Rattle.sw_put.specs.Standing.{PutModel, Stands}
@@ -30,7 +30,7 @@ returns-then-lacks_answers-clause-hands c = λ begun past stands.
     let stood = by_fields c.self.inside c.args.self.now begun past c.self.view_is stands in
     let none : slice_get (due begun past) (length (given past)) ≡ None =
     ap (slice_get (due begun past)) (sym (c.count-count.ensures.given past stood.tickets_are)) ∙ sym (c.due.ensures begun past stands) ∙ c.in_default.is in
-    let few : told_count past < length (due begun past) = ltb-true _ _ (sym (c.lacks_answers.ensures begun past stands) ∙ c.if-lacks_answers.true) in
+    let few : closed_count past < length (due begun past) = ltb-true _ _ (sym (c.lacks_answers.ensures begun past stands) ∙ c.if-lacks_answers.true) in
     inr (
       laws.waits (put_message begun) (due begun past) past none few,
       laws.waits-for (put_message begun) (own begun) (due begun) past stands.run none few,

@@ -1,12 +1,12 @@
 -- An answer to an open message is taken, and another is ignored.
 use Rattle.std.proofs.Common.{◌≡◌, ◌+◌, ◌++◌, [], ◌∷◌, length, Some, sym, ap, subst, ◌∙◌, arith}
 use Rattle.std.specs.List.{slice_get}
-use Rattle.sw_message.specs.Transcript.{open_at, told}
+use Rattle.sw_message.specs.Transcript.{after_answer, open_at}
 use Rattle.sw_message.specs.declared.target.Target.{Target}
-use Rattle.sw_quorum.specs.DueLaws.{never-open}
-use Rattle.sw_quorum.specs.Laws.{counts-within}
+use Rattle.sw_quorum.proofs.DueLaws.{never-open}
+use Rattle.sw_quorum.proofs.Laws.{counts-within}
 use Rattle.sw_quorum.specs.Tally.{Counts, counts_of}
-use Rattle.sw_quorum.specs.Transcripts.{none_at, some_at, told-ignored}
+use Rattle.sw_quorum.proofs.Transcripts.{none_at, some_at, told-ignored}
 use Rattle.sw_quorum.specs.declared.verdict.Verdict.{Verdict}
 use Rattle.sw_put.specs.Inside.{put_seen}
 use Rattle.sw_put.specs.Put.{due, put_message, stores}
@@ -35,7 +35,7 @@ invariant_of-self c =
     let none = none_at (open_at c.args.ticket stood.1) (sym (c.if-not-close.ensures.was_open stood.1 stood.2.tickets_are)) in (
       (
         stood.0,
-        told stood.1 c.args.ticket c.args.answer,
+        after_answer stood.1 c.args.ticket c.args.answer,
         stands_ignored (put_seen c.self.inside) stood.0 stood.1 stood.2 _ c.args.ticket c.args.answer none (c.if-not-close.ensures.goes_on stood.1 c.args.answer stood.2.tickets_are),
       ),
       c.self.invariant.1,
@@ -104,7 +104,7 @@ invariant_of-self-in-StoreAt c =
     let stood = c.self.invariant.0 in (
       (
         stood.0,
-        told stood.1 c.args.ticket c.args.answer,
+        after_answer stood.1 c.args.ticket c.args.answer,
         returns-in-StoreAt-clause-stands c stood.0 stood.1 (subst (λ (put : PutModel). Stands put stood.0 stood.1) c.self.view_is stood.2),
       ),
       omega (arith, c.take.ensures.room, c.self.invariant.1),
@@ -141,7 +141,7 @@ invariant_of-self-in-CommitAt c =
     let sent = some_at (open_at c.args.ticket stood.1) (sym (c.if-not-close.ensures.was_open stood.1 stood.2.tickets_are)) in (
       (
         stood.0,
-        told stood.1 c.args.ticket c.args.answer,
+        after_answer stood.1 c.args.ticket c.args.answer,
         stands_committed (put_seen c.self.inside) stood.0 stood.1 stood.2 c.args.ticket c.in-CommitAt.target sent.0 sent.1 (sym (c.due.ensures stood.0 stood.1 stands) ∙ c.in-Some.is ∙ ap Some c.in-CommitAt.is)
             _ _ c.args.answer
             (c.if-not-close.ensures.goes_on stood.1 c.args.answer stood.2.tickets_are)

@@ -1,8 +1,8 @@
 -- There are few devices.
 use Rattle.std.proofs.Common.{length, ap, arith}
 use Rattle.sw_message.specs.declared.target.Target.{Target}
-use Rattle.sw_quorum.specs.Laws.{counts-within}
-use Rattle.sw_quorum.specs.Places.{handoffs_few, primaries_few}
+use Rattle.sw_quorum.proofs.Laws.{counts-within}
+use Rattle.sw_quorum.proofs.Places.{handoffs_few, primaries_few}
 use Rattle.sw_quorum.specs.Tally.{Counts}
 use Rattle.sw_put.specs.Put.{commits, place_of}
 use Rattle.sw_put.proofs.Transcripts.{commits-within, commits_due-few}

@@ -4,7 +4,7 @@ use Rattle.std.specs.List.{slice_get}
 use Rattle.std.proofs.lemmas.Option.{slice_get_within}
 use Rattle.sw_message.specs.Transcript.{Gave, Hand, Step, given}
 use Rattle.sw_message.specs.declared.sent.Sent.{Sent}
-use Rattle.sw_quorum.specs.DueLaws as laws
+use Rattle.sw_quorum.proofs.DueLaws as laws
 use Rattle.sw_put.specs.Inside.{put_seen}
 use Rattle.sw_put.specs.Plans.{device_in}
 use Rattle.sw_put.specs.Put.{Begun, due, put_message, put_next}

@@ -2,8 +2,8 @@
 use Rattle.std.proofs.Common.{◌≡◌, ◌-◌, ◌≤◌, length, Some, None, sym, ap, ◌∙◌, arith}
 use Rattle.std.specs.List.{slice_get}
 use Rattle.std.proofs.lemmas.Option.{slice_get_within}
-use Rattle.sw_quorum.specs.Lookups.{looked-up, slice_get-behind, slice_get-front, slice_get_none}
-use Rattle.sw_quorum.specs.Places.{primaries_few}
+use Rattle.sw_quorum.proofs.Lookups.{looked-up, slice_get-behind, slice_get-front, slice_get_none}
+use Rattle.sw_quorum.proofs.Places.{primaries_few}
 use Rattle.sw_put.specs.Plans.{replacement}
 use Rattle.sw_put.specs.Put.{place_of, replacements}
 use Rattle.sw_quorum.specs.Targets.{targets_from}

@@ -1,5 +1,5 @@
 use Rattle.std.proofs.Common.{◌+◌, ◌++◌, [], ◌∷◌, Some, sym, ap, ◌∙◌}
-use Rattle.sw_quorum.specs.Laws.{counts-more, judged, with_answer}
+use Rattle.sw_quorum.proofs.Laws.{counts-more, judged, with_answer}
 use Rattle.sw_quorum.specs.Tally.{TallyModel, counts_of}
 use Rattle.sw_quorum.specs.declared.verdict.Verdict.{Verdict}
 use Rattle.sw_quorum.specs.declared.verdict.Verdict.TheVariants.{Forbidden}

@@ -1,6 +1,6 @@
 -- An answer is taken.
 use Rattle.std.proofs.Common.{List, sym, subst}
-use Rattle.sw_message.specs.Transcript.{Step, told}
+use Rattle.sw_message.specs.Transcript.{Step, after_answer}
 use Rattle.sw_sync.specs.Inside.{sync_seen}
 use Rattle.sw_sync.specs.Standing.{Stands, SyncModel}
 use Rattle.sw_sync.specs.Sync.{Begun}
@@ -8,13 +8,13 @@ use Rattle.sw_sync.proofs.Changes.{stands_told}
 use Rattle.sw_sync.proofs.sync.SyncJob.answer.Goals as goal
 
 stood : (c : goal.After-take) (begun : Begun) (past : List Step) → Stands (sync_seen c.self.inside) begun past
-    → Stands (record (sync_seen c.self.inside) { mailbox = c.take.new.self }) begun (told past c.args.ticket c.args.answer)
+    → Stands (record (sync_seen c.self.inside) { mailbox = c.take.new.self }) begun (after_answer past c.args.ticket c.args.answer)
 stood c begun past stands =
     stands_told (sync_seen c.self.inside) begun past stands c.take.new.self c.take.ensures.errands c.args.ticket c.args.answer
     (c.take.ensures.taken past stands.goes_with) (c.take.ensures.goes_with past stands.goes_with)
 
 pub invariant_of-self : goal.invariant_of-self
-invariant_of-self c = let known = c.self.invariant in (known.0, told known.1 c.args.ticket c.args.answer, stood c known.0 known.1 known.2)
+invariant_of-self c = let known = c.self.invariant in (known.0, after_answer known.1 c.args.ticket c.args.answer, stood c known.0 known.1 known.2)
 
 pub returns-clause-stands : goal.returns-clause-stands
 returns-clause-stands c = λ begun past stands. stood c begun past (subst (λ (job : SyncModel). Stands job begun past) (sym c.self.view_is) stands)

@@ -1,6 +1,6 @@
 -- A sync that has handed out nothing stands for the empty transcript.
 use Rattle.std.proofs.Common.{◌<◌, ◌^◌, List, [], map, refl, sym, ap, subst, ◌∙◌}
-use Rattle.sw_hashpath.specs.Laws.{part_below}
+use Rattle.sw_hashpath.proofs.Laws.{part_below}
 use Rattle.sw_ring.specs.Cluster.{handoffs_of}
 use Rattle.sw_sync.specs.Parts.{Heard}
 use Rattle.sw_sync.specs.Standing.{Stands}

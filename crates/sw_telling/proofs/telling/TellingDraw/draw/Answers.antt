@@ -1,7 +1,7 @@
 use Rattle.std.proofs.Common.{◌≡◌, ◌∙◌, false, true, Some, ap, refl, subst, sym}
 use Rattle.std.specs.Prelude.{option_copied}
 use Rattle.sw_message.specs.Running.{StillTells}
-use Rattle.sw_scene.specs.Moves.{next_stamp}
+use Rattle.sw_law_scene.specs.Moves.{next_stamp}
 use Rattle.sw_telling.specs.Telling.{TellingModel, learnt_by, with_own}
 use Rattle.sw_telling.proofs.Drawing.{is_telling, learns, still_tells}
 use Rattle.sw_telling.proofs.Tells.{on_ok, with_clock}

@@ -1,4 +1,0 @@
-pub mod Handoffs
-pub mod Orders
-pub mod Sendings
-pub mod Showings

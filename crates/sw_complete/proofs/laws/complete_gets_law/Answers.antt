@@ -1,5 +1,0 @@
-use Rattle.sw_complete.proofs.GetComplete.{get_complete}
-use Rattle.sw_complete.proofs.laws.complete_gets_law.Goals as goal
-
-pub returns : goal.returns
-returns c = get_complete

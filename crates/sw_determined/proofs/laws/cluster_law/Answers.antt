@@ -1,5 +1,0 @@
-use Rattle.sw_determined.proofs.Clusters.{one_cluster}
-use Rattle.sw_determined.proofs.laws.cluster_law.Goals as goal
-
-pub returns : goal.returns
-returns c = one_cluster

@@ -1,6 +1,0 @@
-//! What an operator is promised, whatever happens.
-#![tactic(auto)]
-
-mod laws;
-
-pub use crate::laws::headline_law;

@@ -1,5 +1,0 @@
-use Rattle.sw_homes.proofs.Counting.{homes}
-use Rattle.sw_homes.proofs.laws.homes_law.Goals as goal
-
-pub returns : goal.returns
-returns c = homes

@@ -1,0 +1,12 @@
+pub mod Counting
+pub mod Handed
+pub mod Handoffs
+pub mod LastRound
+pub mod Listed
+pub mod Openings
+pub mod Orders
+pub mod Reached
+pub mod Rounds
+pub mod Sendings
+pub mod Showings
+pub mod Timing

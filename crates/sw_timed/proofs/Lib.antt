@@ -1,6 +1,0 @@
-pub mod Beginning
-pub mod Going
-pub mod Handed
-pub mod Later
-pub mod Runs
-pub mod Telling

@@ -1,6 +1,0 @@
-use Rattle.std.proofs.Common.{◌≡◌, ◌++◌, map, take}
-use Rattle.sw_told.specs.declared.show.ShowLine.TheVariants.{Buried}
-use Rattle.sw_world.proofs.show.push_buried.Given as goal
-
-abbrev pub invariant-loop-stamp : goal.invariant-loop-stamp
-invariant-loop-stamp l = l.lines.items ≡ l.initial.lines.items ++ map (Buried l.device) (take l.stamp-index l.stamps)

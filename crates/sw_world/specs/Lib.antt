@@ -1,7 +1,0 @@
-pub mod Doing
-pub mod Leading
-pub mod Scripted
-pub mod Show
-pub mod Standing
-pub mod Unfolding
-pub mod WorldInside
