@@ -1,0 +1,10 @@
+pub mod Duties
+pub mod Fates
+pub mod Files
+pub mod Fresh
+pub mod Held
+pub mod Listings
+pub mod Removals
+pub mod Replies
+pub mod Stays
+pub mod Timeless

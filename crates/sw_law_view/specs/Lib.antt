@@ -1,0 +1,3 @@
+pub mod Duties
+pub mod Replies
+pub mod Staying
