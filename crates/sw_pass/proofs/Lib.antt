@@ -1,0 +1,15 @@
+pub mod Counts
+pub mod Events
+pub mod Facts
+pub mod Histories
+pub mod Joining
+pub mod Keeps
+pub mod Looks
+pub mod Losing
+pub mod Losses
+pub mod Nodes
+pub mod Opening
+pub mod Pairs
+pub mod Slots
+pub mod Stamps
+pub mod Views
