@@ -152,15 +152,12 @@ impl<R: Host> HostDisk<R> {
         }
     }
 
-    // The names of the files of a folder, ascending. There are none in one that is missing, if the disk is there.
+    // The names of the files of a folder, ascending. There are none in one that is missing.
     pub(crate) fn file_names(&self, folder: &str) -> Result<Vec<String>, HostFault>
         ensures { IfOk result (λ names. IsSorted (slice_cmp nat_cmp) (texts_of names.items)) }
     {
-        let names = files_in(&self.host, &folder_below(&self.base, folder)?)?;
-        if names.is_empty() {
-            self.check_there()?;
-        }
-        Ok(names)
+        self.check_there()?;
+        files_in(&self.host, &folder_below(&self.base, folder)?)
     }
 
     // The bytes of a file.
@@ -179,6 +176,7 @@ impl<R: Host> HostDisk<R> {
         ensures faults { self.new.faults ≡ self.old.faults }
     {
         self.temporary = None;
+        self.check_there()?;
         let mut file = File::create(&self.host, below(&self.base, TEMPORARY)?.as_str())?;
         file.write_all(bytes)?;
         let size = bytes.len() as u64;
@@ -225,6 +223,7 @@ impl<R: Host> HostDisk<R> {
         if !is_place(folder) {
             return Err(HostFault::Failed);
         }
+        self.check_there()?;
         self.settle()?;
         make_folders(&self.host, &self.base, folder, &mut self.unsettled)
     }
@@ -296,12 +295,14 @@ impl<R: Host> HostDisk<R> {
     pub(crate) fn sync_names(&mut self, folder: &str) -> Result<(), HostFault>
         ensures faults { self.new.faults ≡ self.old.faults }
     {
+        self.check_there()?;
         sync_folder(&self.host, &folder_below(&self.base, folder)?)?;
         self.settle()
     }
 
-    // The path of a file.
+    // The path of a file, if the disk is there.
     fn path(&self, folder: &str, name: &str) -> Result<HostPath, HostFault> {
+        self.check_there()?;
         below(&folder_below(&self.base, folder)?, name)
     }
 }

@@ -92,6 +92,7 @@ fn keeps_files_of_the_host(rt: HostRuntime) -> Result<(), Fail> {
     let base = format!(in alloc; "{root}/data/3")?;
     refuse_and_miss(&rt, &rt, &mut disk, &base)?;
     add_foreign_files(&rt, &base)?;
+    expect_no_folder(&rt, alloc, &mut disk);
     assert_eq!(rt; disk.sync_dir("objects/8"), Err(DiskRefusal::Failed));
     shelf.back(3, disk);
     expect_found_again(&rt, alloc, &mut shelf)?;
@@ -204,6 +205,7 @@ fn refuse_and_miss(
     assert!(rt; fails(alloc, disk));
     fs::create_dir(host, base)?;
     assert!(rt; fails(alloc, disk));
+    assert!(rt; put(disk, alloc, OTHER, "g", b"4").is_err());
     fs::remove_dir(host, base)?;
     fs::rename(host, &away, base)?;
     expect_folders(rt, alloc, disk, &[FOLDER])
@@ -231,6 +233,11 @@ fn add_foreign_files(rt: &LibcRuntime, base: &str) -> Result<(), Fail> {
         }
     }
     Ok(())
+}
+
+// A file where a folder would be is not taken for a folder without files.
+fn expect_no_folder(rt: &impl Abort, alloc: Global, disk: &mut TestDisk) {
+    assert!(rt; disk.list(alloc, FOREIGN[1]).is_err());
 }
 
 fn expect_foreign_files(rt: &LibcRuntime, base: &str) -> Result<(), Fail> {
