@@ -36,7 +36,7 @@ impl Multiples {
         Multiples { factor, low, high }
     }
 
-    /// Adds the element times each element of `src` to the element of `dst` at its place.
+    /// Adds the element times each element of `src` to the element of `dst` at the same index.
     pub(crate) fn add(&self, dst: &mut [u8], src: &[u8])
         requires { length dst.old ≡ length src.now }
         ensures { dst.new ≡ plus_multiple dst.old src.now self.now.factor }
@@ -45,8 +45,8 @@ impl Multiples {
         for block in 0..blocks {
             self.add_block(dst, src, block * BLOCK);
         }
-        for place in blocks * BLOCK..src.len() {
-            dst[place] ^= self.times(src[place]);
+        for index in blocks * BLOCK..src.len() {
+            dst[index] ^= self.times(src[index]);
         }
     }
 

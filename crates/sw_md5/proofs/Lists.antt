@@ -11,7 +11,7 @@ four_items (a ∷ b ∷ c ∷ []) e = absurd (omega arith)
 four_items (a ∷ b ∷ c ∷ d ∷ []) e = refl
 four_items (a ∷ b ∷ c ∷ d ∷ x ∷ rest) e = absurd (omega arith)
 
--- a front, and the next items up to some place or the end
+-- a front, and the next items up to some index or the end
 pub take_further : {V : Type 0} (xs : List V) (a b e : ℕ) → e ≡ min (length xs) b → a < length xs → a ≤ b → take b xs ≡ take a xs ++ take (e - a) (drop a xs)
 take_further xs a b e is low order =
     let more : a + (e - a) ≡ e = omega arith in

@@ -10,7 +10,7 @@ use Rattle.md5.specs.Md5.{step_shifts, word_at, block_words}
 use Rattle.md5.proofs.Rounds.{words_are}
 use Rattle.sw_md5.specs.Side.{HasWords}
 
--- each step shifts by some places, and not by all
+-- each step rotates by some bits, and not by all
 pub shift_fits : (t : ℕ) → t < 64 → (0 < get_or step_shifts t 0) × (get_or step_shifts t 0 < 32)
 shift_fits t h = (ltb-true _ _ (passes low refl), ltb-true _ _ (passes high refl))
   where

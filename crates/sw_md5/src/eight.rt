@@ -55,7 +55,7 @@ impl Lanes for u32x8 {
     }
 
     #[inline(always)]
-    fn rotated(self, places: u32) -> u32x8 {
-        (self << u32x8::splat(places)) | (self >> u32x8::splat(32 - places))
+    fn rotated(self, bits: u32) -> u32x8 {
+        (self << u32x8::splat(bits)) | (self >> u32x8::splat(32 - bits))
     }
 }

@@ -56,7 +56,7 @@ impl Lanes for u32x4 {
     }
 
     #[inline(always)]
-    fn rotated(self, places: u32) -> u32x4 {
-        (self << u32x4::splat(places)) | (self >> u32x4::splat(32 - places))
+    fn rotated(self, bits: u32) -> u32x4 {
+        (self << u32x4::splat(bits)) | (self >> u32x4::splat(32 - bits))
     }
 }

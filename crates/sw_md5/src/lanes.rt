@@ -51,8 +51,8 @@ pub(crate) trait Lanes {
         ensures { (j : ℕ) → j < width → lane result j ≡ add32 (lane self j) (lane other j) };
 
     /// Each lane rotated to the left.
-    fn rotated(self, places: u32) -> Self
-        requires some { 0 < places }
-        requires most { places < 32 }
-        ensures { (j : ℕ) → j < width → lane result j ≡ rotate_left w32 (lane self j) places };
+    fn rotated(self, bits: u32) -> Self
+        requires some { 0 < bits }
+        requires most { bits < 32 }
+        ensures { (j : ℕ) → j < width → lane result j ≡ rotate_left w32 (lane self j) bits };
 }

@@ -68,43 +68,43 @@ fn state_at(states: &[[u32; 4]; 32], index: usize) -> [u32; 4]
 
 // A word of one message's state.
 #[inline(always)]
-fn state_word(states: &[[u32; 4]; 32], index: usize, place: usize) -> u32
-    requires { place < 4 }
-    ensures word { index < 32 → result ≡ slice_index (slice_index_or states.now index []) place }
+fn state_word(states: &[[u32; 4]; 32], index: usize, register: usize) -> u32
+    requires { register < 4 }
+    ensures word { index < 32 → result ≡ slice_index (slice_index_or states.now index []) register }
     ensures long { index < 32 → length (slice_index_or states.now index []) ≡ 4 }
 {
     let state = state_at(states, index);
-    state[place]
+    state[register]
 }
 
 // A word of the states of four messages.
 #[inline(always)]
-fn four_state_words(states: &[[u32; 4]; 32], first: usize, place: usize) -> [u32; 4]
+fn four_state_words(states: &[[u32; 4]; 32], first: usize, register: usize) -> [u32; 4]
     requires few { first ≤ 2 ^ 32 }
-    requires place { place < 4 }
-    ensures words { (j : ℕ) → j < 4 → first + j < 32 → slice_index result j ≡ slice_index (slice_index_or states.now (first + j) []) place }
+    requires register { register < 4 }
+    ensures words { (j : ℕ) → j < 4 → first + j < 32 → slice_index result j ≡ slice_index (slice_index_or states.now (first + j) []) register }
     ensures long { (j : ℕ) → j < 4 → first + j < 32 → length (slice_index_or states.now (first + j) []) ≡ 4 }
 {
     [
-        state_word(states, first, place),
-        state_word(states, first + 1, place),
-        state_word(states, first + 2, place),
-        state_word(states, first + 3, place),
+        state_word(states, first, register),
+        state_word(states, first + 1, register),
+        state_word(states, first + 2, register),
+        state_word(states, first + 3, register),
     ]
 }
 
 /// A word of each message's state, for each lane.
 #[inline(always)]
-pub(crate) fn column<V: Lanes>(states: &[[u32; 4]; 32], first: usize, place: usize) -> [u32; 8]
+pub(crate) fn column<V: Lanes>(states: &[[u32; 4]; 32], first: usize, register: usize) -> [u32; 8]
     requires few { first ≤ 2 ^ 31 }
-    requires place { place < 4 }
-    ensures words { (j : ℕ) → j < V.width → first + j < 32 → slice_index result j ≡ slice_index (slice_index_or states.now (first + j) []) place }
+    requires register { register < 4 }
+    ensures words { (j : ℕ) → j < V.width → first + j < 32 → slice_index result j ≡ slice_index (slice_index_or states.now (first + j) []) register }
     ensures long { (j : ℕ) → j < V.width → first + j < 32 → length (slice_index_or states.now (first + j) []) ≡ 4 }
 {
-    let [a, b, c, d] = four_state_words(states, first, place);
+    let [a, b, c, d] = four_state_words(states, first, register);
     if V::width() <= 4 {
         return [a, b, c, d, 0, 0, 0, 0];
     }
-    let [e, f, g, h] = four_state_words(states, first + 4, place);
+    let [e, f, g, h] = four_state_words(states, first + 4, register);
     [a, b, c, d, e, f, g, h]
 }

@@ -27,8 +27,8 @@ fn messages_of(alloc: Global, count: usize, bytes: usize) -> Result<Vec<Bytes>, 
     let mut messages = Vec::new(alloc);
     for message in 0..count {
         let mut content = Vec::new(alloc);
-        for place in 0..bytes {
-            content.push((place % 251) as u8 ^ (message % 256) as u8)?;
+        for index in 0..bytes {
+            content.push((index % 251) as u8 ^ (message % 256) as u8)?;
         }
         messages.push(Bytes::from(content))?;
     }
