@@ -8,7 +8,7 @@ use Rattle.sw_hashdir.proofs.Laws.{entry_there}
 use Rattle.sw_hashdir.specs.Listing.{IsListingOf, ListingModel}
 use Rattle.sw_ring.specs.Cluster.{ClusterModel}
 use Rattle.sw_message.specs.Step.{Folders, IsNodeStep, IsPlaceStep}
-use Rattle.sw_message.specs.Table.{Handling}
+use Rattle.sw_message.specs.Table.{AskListed, FetchGone, FetchRead, FetchSpoiled, Handling}
 use Rattle.sw_message.specs.declared.message.Msg.{Msg}
 use Rattle.sw_message.specs.declared.message.Msg.TheVariants as message
 use Rattle.sw_message.specs.declared.reply.Reply.{Reply}
@@ -44,21 +44,18 @@ module _ (cluster : ClusterModel) (device room : ℕ) (before after : Folders) (
       )
 
   asks : (place : PlaceModel) → IsPlaceStep cluster device room (message.Ask place) place before after reply → IsReadOnly place (message.Ask place)
-  asks place step =
-      let row = step.handled in
-      read place (message.Ask place) step _ row.2 refl (λ listing shows. (subst (IsListingOf step.found.names) shows row.1, tt))
+  asks place step = elim step.handled [
+    | AskListed made lists is ↦ read place (message.Ask place) step _ is refl (λ listing shows. (subst (IsListingOf step.found.names) shows lists, tt))
+  ]
 
   fetches : (place : PlaceModel) (stamp index : ℕ) → IsPlaceStep cluster device room (message.Fetch place stamp index) place before after reply → IsReadOnly place (message.Fetch place stamp index)
   fetches place stamp index step = elim step.handled [
-    | inl gone ↦
-        read place (message.Fetch place stamp index) step _ gone.3 refl (λ listing shows.
-        let lists = subst (IsListingOf step.found.names) shows gone.2 in
-        (lists, λ durable has. gone.0 durable (entry_there step.found.names stamp index durable ((lists.entries (record { stamp = stamp; index = index; durable = durable })).0 has))))
-    | inr there ↦
-        elim there.2 [
-          | inl brought ↦ read place (message.Fetch place stamp index) step _ brought.1 refl (λ listing none. absurd none)
-          | inr spoilt ↦ read place (message.Fetch place stamp index) step _ spoilt.2 refl (λ listing none. absurd none)
-        ]
+    | FetchGone lacks made of_names is ↦
+        read place (message.Fetch place stamp index) step _ is refl (λ listing shows.
+        let lists = subst (IsListingOf step.found.names) shows of_names in
+        (lists, λ durable has. lacks durable (entry_there step.found.names stamp index durable ((lists.entries (record { stamp = stamp; index = index; durable = durable })).0 has))))
+    | FetchRead durable has archive is ↦ read place (message.Fetch place stamp index) step _ is refl (λ listing none. absurd none)
+    | FetchSpoiled durable has spoil spoils is ↦ read place (message.Fetch place stamp index) step _ is refl (λ listing none. absurd none)
   ]
 
   -- so does each message that reads the place's folder

@@ -20,7 +20,7 @@ use Rattle.sw_diskfile.proofs.Directories.{durable_directory, has_content, made_
 use Rattle.sw_ring.specs.Cluster.{ClusterModel}
 use Rattle.sw_message.specs.Message.{is_primary, place_in}
 use Rattle.sw_message.specs.Step.{Folders, IsFound}
-use Rattle.sw_message.specs.Table.{ArePurged, Found, Handling, HandlesAsk, HandlesCommit, HandlesDelete, HandlesFetch, HandlesPutFrag, HandlesRemove, IsHandled, answers_after, durable_text, plain_text, tombstone_text}
+use Rattle.sw_message.specs.Table.{ArePurged, AskListed, CommitMissing, CommitRenamed, CommitSuperseded, CommitThere, DeleteSuperseded, DeleteThere, DeleteWritten, FetchGone, FetchRead, FetchSpoiled, Found, HandlesAsk, HandlesCommit, HandlesDelete, HandlesFetch, HandlesPutFrag, HandlesRemove, Handling, IsHandled, PutFragFull, PutFragSpoiled, PutFragStored, PutFragSuperseded, PutFragThere, RemoveDropped, RemoveKept, RemoveMissing, answers_after, durable_text, plain_text, tombstone_text}
 use Rattle.sw_message.specs.Warrant.{HasListing}
 use Rattle.sw_message.specs.declared.message.Msg.{Msg}
 use Rattle.sw_message.specs.declared.message.Msg.TheVariants as message
@@ -104,15 +104,15 @@ module _ (cluster : ClusterModel) (primary : Bool) (place : PlaceModel) (files :
 
     -- an archive is stored
     put-row : HandlesPutFrag cluster place stamp index bytes found handling → Fine put handling
-    put-row (inl (spoil, spoils, same)) = quiet put handling [] (reply.Spoiled spoil) same (⊎_elim absurd (shown (reply.Spoiled spoil) none)) none
-    put-row (inr (archive, inl (floor, covered, same))) = quiet put handling [] (reply.Superseded floor) same (⊎_elim absurd (refused floor covered.0.0)) none
-    put-row (inr (archive, inr (uncovered, inl (durable, has, same)))) =
+    put-row (PutFragSpoiled spoil spoils same) = quiet put handling [] (reply.Spoiled spoil) same (⊎_elim absurd (shown (reply.Spoiled spoil) none)) none
+    put-row (PutFragSuperseded archive floor covered same) = quiet put handling [] (reply.Superseded floor) same (⊎_elim absurd (refused floor covered.0.0)) none
+    put-row (PutFragThere archive uncovered durable has same) =
         quiet put handling [] reply.Synced same (⊎_elim
         (λ claimed. there (Data stamp index durable) (entry_there found.names stamp index durable has) (bearing stamp (AnEntry index) (Data stamp index durable) (durable, refl) claimed))
         (shown reply.Synced none)) none
-    put-row (inr (archive, inr (uncovered, inr (lacks, inl (full, same))))) =
+    put-row (PutFragFull archive uncovered lacks full same) =
         quiet put handling (store_calls folder (plain_text stamp index) bytes) (reply.NoSpace (length bytes) found.room) same (⊎_elim absurd (shown (reply.NoSpace (length bytes) found.room) none)) none
-    put-row (inr (archive, inr (uncovered, inr (lacks, inr (fits, same))))) =
+    put-row (PutFragStored archive uncovered lacks fits same) =
         by put handling _ same (
           λ stamped aside. more_bears primary claim files file,
           λ stamped. ⊎_elim
@@ -152,16 +152,16 @@ module _ (cluster : ClusterModel) (primary : Bool) (place : PlaceModel) (files :
 
     -- an archive becomes durable
     commit-row : HandlesCommit primary place stamp index found handling → Fine commit handling
-    commit-row (inl (has, same)) = quiet commit handling [] reply.Committed same (λ claimed. there durable has (committed claimed)) none
-    commit-row (inr (inl (plain, obsolete, purged, same))) =
+    commit-row (CommitThere has same) = quiet commit handling [] reply.Committed same (λ claimed. there durable has (committed claimed)) none
+    commit-row (CommitRenamed plain obsolete purged same) =
         let are = renamed obsolete plain.0 purged in
         by commit handling _ same (
           λ stamped aside borne. purged_bears primary claim files renaming obsolete are (durable_bears primary claim files found.names is.directory stamp index purged.later plain.0 purged.after borne),
           λ stamped claimed. purged_bears primary claim files renaming obsolete are (renamed_bears primary claim files found.names is.directory stamp index purged.later plain.0 purged.after (committed claimed)),
           none,
         )
-    commit-row (inr (inr (lacks, inl (floor, covered, same)))) = quiet commit handling [] (reply.Superseded floor) same (⊎_elim absurd (refused floor covered.0.0)) none
-    commit-row (inr (inr (lacks, inr (uncovered, same)))) = quiet commit handling [] reply.Missing same (⊎_elim absurd (shown reply.Missing none)) none
+    commit-row (CommitSuperseded lacks floor covered same) = quiet commit handling [] (reply.Superseded floor) same (⊎_elim absurd (refused floor covered.0.0)) none
+    commit-row (CommitMissing lacks uncovered same) = quiet commit handling [] reply.Missing same (⊎_elim absurd (shown reply.Missing none)) none
 
   module _ (handling : Handling) (stamp : ℕ) where
     abbrev delete : Msg
@@ -184,12 +184,12 @@ module _ (cluster : ClusterModel) (primary : Bool) (place : PlaceModel) (files :
 
     -- a tombstone is written
     delete-row : HandlesDelete primary place stamp found handling → Fine delete handling
-    delete-row (inl (floor, refuses, same)) = quiet delete handling [] (reply.Superseded floor) same (⊎_elim absurd (refused floor refuses.0.0)) none
-    delete-row (inr (allows, existed, tells, inl (has, same))) =
+    delete-row (DeleteSuperseded floor refuses same) = quiet delete handling [] (reply.Superseded floor) same (⊎_elim absurd (refused floor refuses.0.0)) none
+    delete-row (DeleteThere allows existed tells has same) =
         quiet delete handling [] (reply.Deleted existed) same (⊎_elim
         (λ claimed. there (Tombstone stamp) has (bearing stamp ATombstone (Tombstone stamp) refl claimed))
         (shown (reply.Deleted existed) none)) none
-    delete-row (inr (allows, existed, tells, inr (new, obsolete, purged, same))) =
+    delete-row (DeleteWritten allows existed tells new obsolete purged same) =
         by delete handling _ same (
           λ stamped aside borne. purged_bears primary claim files burying obsolete (buried obsolete stamped purged) (more_bears primary claim files tombstone borne),
           λ stamped claimed. purged_bears primary claim files burying obsolete (buried obsolete stamped purged) (⊎_elim
@@ -205,7 +205,7 @@ module _ (cluster : ClusterModel) (primary : Bool) (place : PlaceModel) (files :
 
   -- the folder is listed
   ask-row : (handling : Handling) → HandlesAsk place found handling → Fine (message.Ask place) handling
-  ask-row handling (listing, lists, same) = quiet (message.Ask place) handling [] (reply.Held listing) same (⊎_elim absurd (shown (reply.Held listing) (listed listing lists))) (listed listing lists)
+  ask-row handling (AskListed listing lists same) = quiet (message.Ask place) handling [] (reply.Held listing) same (⊎_elim absurd (shown (reply.Held listing) (listed listing lists))) (listed listing lists)
 
   module _ (handling : Handling) (stamp index : ℕ) where
     abbrev fetch : Msg
@@ -213,11 +213,11 @@ module _ (cluster : ClusterModel) (primary : Bool) (place : PlaceModel) (files :
 
     -- an archive is read
     fetch-row : HandlesFetch cluster place stamp index found handling → Fine fetch handling
-    fetch-row (inl (lacks, listing, lists, same)) = quiet fetch handling [] (reply.Gone listing) same (⊎_elim absurd (shown (reply.Gone listing) (listed listing lists))) (listed listing lists)
-    fetch-row (inr (durable, has, inl (archive, same))) =
+    fetch-row (FetchGone lacks listing lists same) = quiet fetch handling [] (reply.Gone listing) same (⊎_elim absurd (shown (reply.Gone listing) (listed listing lists))) (listed listing lists)
+    fetch-row (FetchRead durable has archive same) =
         let bytes = found.bytes (Data stamp index durable) in
         quiet fetch handling (ReadFile folder (file_name_text (Data stamp index durable)) ∷ []) (reply.Fragment bytes) same (⊎_elim absurd (shown (reply.Fragment bytes) none)) none
-    fetch-row (inr (durable, has, inr (spoil, spoils, same))) =
+    fetch-row (FetchSpoiled durable has spoil spoils same) =
         quiet fetch handling (ReadFile folder (file_name_text (Data stamp index durable)) ∷ []) (reply.Spoiled spoil) same (⊎_elim absurd (shown (reply.Spoiled spoil) none)) none
 
     abbrev remove : Msg
@@ -225,9 +225,9 @@ module _ (cluster : ClusterModel) (primary : Bool) (place : PlaceModel) (files :
 
     -- an archive goes from a handoff
     remove-row : HandlesRemove primary place stamp index found handling → Fine remove handling
-    remove-row (inl (kept, same)) = quiet remove handling [] reply.Kept same (⊎_elim absurd (shown reply.Kept none)) none
-    remove-row (inr (handoff, inl (lacks, same))) = quiet remove handling [] reply.Missing same (⊎_elim absurd (shown reply.Missing none)) none
-    remove-row (inr (handoff, inr (durable, has, same))) =
+    remove-row (RemoveKept kept same) = quiet remove handling [] reply.Kept same (⊎_elim absurd (shown reply.Kept none)) none
+    remove-row (RemoveMissing handoff lacks same) = quiet remove handling [] reply.Missing same (⊎_elim absurd (shown reply.Missing none)) none
+    remove-row (RemoveDropped handoff durable has same) =
         let gone = Data stamp index durable in
         let spelt = (is.directory gone).0 (entry_there found.names stamp index durable has) in
         by remove handling _ same (

@@ -5,7 +5,7 @@ use Rattle.sw_hashpath.specs.Place.{IsPlace, PlaceModel, folder_of}
 use Rattle.sw_ring.specs.Cluster.{ClusterModel, place_of_name}
 use Rattle.sw_message.specs.Learnt.{HasOwn}
 use Rattle.sw_message.specs.Step.{Folders}
-use Rattle.sw_message.specs.Table.{Allows, Found, Handling, HandlesDelete}
+use Rattle.sw_message.specs.Table.{Allows, DeleteSuperseded, DeleteThere, DeleteWritten, Found, HandlesDelete, Handling}
 use Rattle.sw_message.specs.Transcript.{IsRun}
 use Rattle.sw_message.specs.declared.message.Msg.{Msg}
 use Rattle.sw_message.specs.declared.message.Msg.TheVariants as message
@@ -29,9 +29,9 @@ use Rattle.sw_law_complete.proofs.DeleteTranscripts.{AreMarked, IsMarked, given_
 -- ---- devices
 
 marks_row : (primary : Bool) (place : PlaceModel) (stamp : ℕ) (found : Found) (handling : Handling) → Allows found.names stamp → HandlesDelete primary place stamp found handling → (existed : Bool) × (handling.reply ≡ reply.Deleted existed)
-marks_row primary place stamp found handling allows (inl (floor, refuses, same)) = absurd (allows floor refuses)
-marks_row primary place stamp found handling allows (inr (allowed, existed, tells, inl (has, same))) = (existed, ap (λ (one : Handling). one.reply) same)
-marks_row primary place stamp found handling allows (inr (allowed, existed, tells, inr (new, obsolete, purged, same))) = (existed, ap (λ (one : Handling). one.reply) same)
+marks_row primary place stamp found handling allows (DeleteSuperseded floor refuses same) = absurd (allows floor refuses)
+marks_row primary place stamp found handling allows (DeleteThere allowed existed tells has same) = (existed, ap (λ (one : Handling). one.reply) same)
+marks_row primary place stamp found handling allows (DeleteWritten allowed existed tells new obsolete purged same) = (existed, ap (λ (one : Handling). one.reply) same)
 
 -- a tombstone is written or there, where no floor refuses it
 marks : (cluster : ClusterModel) (place : PlaceModel) (stamp device : ℕ) (answer : Reply) (before after : Folders) → IsUnbeaten (RefusesMark stamp) (before (folder_of place)) → IsDeviceStep cluster device (message.Delete place stamp) answer before after

@@ -19,7 +19,7 @@ use Rattle.sw_ring.specs.Cluster.{ClusterModel}
 use Rattle.sw_message.specs.Learnt.{Booked, IsSoundBook}
 use Rattle.sw_message.specs.Spoil.{IsArchiveOf}
 use Rattle.sw_message.specs.Step.{Folders, IsFound, IsNodeStep, IsPlaceStep}
-use Rattle.sw_message.specs.Table.{Found, LacksEntry}
+use Rattle.sw_message.specs.Table.{AskListed, FetchGone, FetchRead, FetchSpoiled, Found, LacksEntry}
 use Rattle.sw_message.specs.Transcript.{Closed, Step}
 use Rattle.sw_message.specs.Warrant.{IsOfPut}
 use Rattle.sw_message.specs.declared.message.Msg.{Msg}
@@ -110,10 +110,11 @@ module _ (cluster : ClusterModel) (book : List Booked) (sound : IsSoundBook clus
     SaysOfFound msg = (names : List FileName) × IsDirectory (names_of (before (folder_of place))) names × Says cluster book place names msg given
 
     asks : IsPlaceStep cluster device room (message.Ask place) place before after given → SaysOfFound (message.Ask place)
-    asks step =
-        let row = step.handled in
-        let replied : given ≡ reply.Held row.0 = step.replied ∙ ap (λ handling. handling.reply) row.2 in
-        (step.found.names, step.is_found.directory, subst (Says cluster book place step.found.names (message.Ask place)) (sym replied) row.1)
+    asks step = elim step.handled [
+      | AskListed listing lists is ↦
+          let replied : given ≡ reply.Held listing = step.replied ∙ ap (λ handling. handling.reply) is in
+          (step.found.names, step.is_found.directory, subst (Says cluster book place step.found.names (message.Ask place)) (sym replied) lists)
+    ]
 
     fetches : (stamp index : ℕ) → IsPlaceStep cluster device room (message.Fetch place stamp index) place before after given → SaysOfFound (message.Fetch place stamp index)
     fetches stamp index step =
@@ -122,17 +123,16 @@ module _ (cluster : ClusterModel) (book : List Booked) (sound : IsSoundBook clus
           names,
           step.is_found.directory,
           elim step.handled [
-            | inl gone ↦
-                let replied : given ≡ reply.Gone gone.1 = step.replied ∙ ap (λ handling. handling.reply) gone.3 in
-                subst Fine (sym replied) (gone.2, gone.0)
-            | inr there ↦
-                let of = entry_of_put (before (folder_of place)) filed room step.found step.is_found stamp index there.0 there.1 in
-                elim there.2 [
-                  | inl brought ↦
-                      let replied : given ≡ reply.Fragment (step.found.bytes (Data stamp index there.0)) = step.replied ∙ ap (λ handling. handling.reply) brought.1 in
-                      subst Fine (sym replied) of
-                  | inr spoilt ↦ absurd (asked_or_spoiled cluster place stamp index (step.found.bytes (Data stamp index there.0)) spoilt.0 (archive_asked stamp index _ of) spoilt.1)
-                ]
+            | FetchGone lacks listing lists is ↦
+                let replied : given ≡ reply.Gone listing = step.replied ∙ ap (λ handling. handling.reply) is in
+                subst Fine (sym replied) (lists, lacks)
+            | FetchRead durable has archive is ↦
+                let of = entry_of_put (before (folder_of place)) filed room step.found step.is_found stamp index durable has in
+                let replied : given ≡ reply.Fragment (step.found.bytes (Data stamp index durable)) = step.replied ∙ ap (λ handling. handling.reply) is in
+                subst Fine (sym replied) of
+            | FetchSpoiled durable has spoil spoils is ↦
+                let of = entry_of_put (before (folder_of place)) filed room step.found step.is_found stamp index durable has in
+                absurd (asked_or_spoiled cluster place stamp index (step.found.bytes (Data stamp index durable)) spoil (archive_asked stamp index _ of) spoils)
           ],
         )
 

@@ -14,7 +14,7 @@ use Rattle.sw_archive.proofs.Faults.{no_fault}
 use Rattle.sw_ring.specs.Cluster.{ClusterModel, place_of_name}
 use Rattle.sw_message.specs.Spoil.{IsArchiveOf, IsOfPlace, IsSpoil}
 use Rattle.sw_message.specs.Step.{Folders}
-use Rattle.sw_message.specs.Table.{Found, Handling, HandlesCommit, HandlesPutFrag, IsUncovered, LacksEntry}
+use Rattle.sw_message.specs.Table.{CommitMissing, CommitRenamed, CommitSuperseded, CommitThere, Found, HandlesCommit, HandlesPutFrag, Handling, IsUncovered, LacksEntry, PutFragFull, PutFragSpoiled, PutFragStored, PutFragSuperseded, PutFragThere}
 use Rattle.sw_message.specs.declared.message.Msg.TheVariants as message
 use Rattle.sw_message.specs.declared.reply.Reply.{Reply}
 use Rattle.sw_message.specs.declared.reply.Reply.TheVariants.{Committed, Synced}
@@ -46,16 +46,17 @@ module _ (cluster : ClusterModel) (place : PlaceModel) (stamp index : ℕ) where
 
   put_row : (bytes : List ℕ) (found : Found) (handling : Handling) → IsArchiveOf cluster place stamp index bytes → IsUncovered found.names stamp → (LacksEntry found.names stamp index → length bytes ≤ found.room)
       → HandlesPutFrag cluster place stamp index bytes found handling → handling.reply ≡ Synced
-  put_row bytes found handling archive free room (inl (spoil, spoils, same)) = absurd (never_spoilt bytes spoil archive spoils)
-  put_row bytes found handling archive free room (inr (is, inl (floor, covered, same))) = absurd (free floor covered)
-  put_row bytes found handling archive free room (inr (is, inr (uncovered, inl (durable, has, same)))) = ap (λ (one : Handling). one.reply) same
-  put_row bytes found handling archive free room (inr (is, inr (uncovered, inr (lacks, inl (full, same))))) = absurd (omega (arith, full, room lacks))
-  put_row bytes found handling archive free room (inr (is, inr (uncovered, inr (lacks, inr (fits, same))))) = ap (λ (one : Handling). one.reply) same
+  put_row bytes found handling archive free room (PutFragSpoiled spoil spoils same) = absurd (never_spoilt bytes spoil archive spoils)
+  put_row bytes found handling archive free room (PutFragSuperseded is floor covered same) = absurd (free floor covered)
+  put_row bytes found handling archive free room (PutFragThere is uncovered durable has same) = ap (λ (one : Handling). one.reply) same
+  put_row bytes found handling archive free room (PutFragFull is uncovered lacks full same) = absurd (omega (arith, full, room lacks))
+  put_row bytes found handling archive free room (PutFragStored is uncovered lacks fits same) = ap (λ (one : Handling). one.reply) same
 
   commit_row : (primary : Bool) (found : Found) (handling : Handling) → (LacksEntry found.names stamp index → ⊥) → HandlesCommit primary place stamp index found handling → handling.reply ≡ Committed
-  commit_row primary found handling there (inl (has, same)) = ap (λ (one : Handling). one.reply) same
-  commit_row primary found handling there (inr (inl (has, obsolete, purged, same))) = ap (λ (one : Handling). one.reply) same
-  commit_row primary found handling there (inr (inr (lacks, rest))) = absurd (there lacks)
+  commit_row primary found handling there (CommitThere has same) = ap (λ (one : Handling). one.reply) same
+  commit_row primary found handling there (CommitRenamed has obsolete purged same) = ap (λ (one : Handling). one.reply) same
+  commit_row primary found handling there (CommitSuperseded lacks floor covered same) = absurd (there lacks)
+  commit_row primary found handling there (CommitMissing lacks free same) = absurd (there lacks)
 
   -- ---- entries
 

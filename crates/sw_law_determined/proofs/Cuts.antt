@@ -10,10 +10,10 @@ use Rattle.sw_message.specs.Step.{Folders, IsFound}
 use Rattle.sw_message.specs.Table.{Found, Handling, IsHandled}
 use Rattle.sw_message.specs.declared.message.Msg.{Msg}
 use Rattle.sw_message.specs.declared.message.Msg.TheVariants as message
+use Rattle.sw_message.proofs.Handlings.{one_commit, one_delete, one_put, one_remove}
 use Rattle.sw_law_scene.specs.Devices.{capacity_of}
 use Rattle.sw_sim_nodes.specs.Crashing.{IsCut, IsCutShort, calls_done, crashed_files, disk_of}
 use Rattle.sw_law_determined.proofs.Rooms.{one_room}
-use Rattle.sw_law_determined.proofs.Writes.{one_commit, one_delete, one_put, one_remove}
 
 module _ (cluster : ClusterModel) (device calls pick : ℕ) (before one other : Folders) where
   -- where the message is handled in one way
@@ -31,11 +31,11 @@ module _ (cluster : ClusterModel) (device calls pick : ℕ) (before one other : 
 
   pub one_cut : (msg : Msg) → IsCut cluster device msg calls pick before one → IsCut cluster device msg calls pick before other → one ≡ other
   one_cut (message.PutFrag place stamp index bytes) x y =
-      cut_short (message.PutFrag place stamp index bytes) place (λ room first second is also a b. one_put (before (folder_of place)) room first second is also cluster place stamp index bytes a b) x y
+      cut_short (message.PutFrag place stamp index bytes) place (λ room first second is also a b. one_put cluster (before (folder_of place)) room first second is also place stamp index bytes a b) x y
   one_cut (message.Commit place stamp index) x y =
-      cut_short (message.Commit place stamp index) place (λ room first second is also a b. one_commit (before (folder_of place)) room first second is also (is_primary cluster device place) place stamp index a b) x y
+      cut_short (message.Commit place stamp index) place (λ room first second is also a b. one_commit cluster (before (folder_of place)) room first second is also (is_primary cluster device place) place stamp index a b) x y
   one_cut (message.Delete place stamp) x y =
-      cut_short (message.Delete place stamp) place (λ room first second is also a b. one_delete (before (folder_of place)) room first second is also (is_primary cluster device place) place stamp a b) x y
+      cut_short (message.Delete place stamp) place (λ room first second is also a b. one_delete cluster (before (folder_of place)) room first second is also (is_primary cluster device place) place stamp a b) x y
   one_cut (message.Remove place stamp index) x y =
-      cut_short (message.Remove place stamp index) place (λ room first second is also a b. one_remove (before (folder_of place)) room first second is also (is_primary cluster device place) place stamp index a b) x y
+      cut_short (message.Remove place stamp index) place (λ room first second is also a b. one_remove cluster (before (folder_of place)) room first second is also (is_primary cluster device place) place stamp index a b) x y
   one_cut other_msg x y = fun_ext (λ name. x name ∙ sym (y name))

@@ -8,4 +8,3 @@ pub mod Going
 pub mod Machines
 pub mod Rooms
 pub mod Sureness
-pub mod Writes

@@ -23,7 +23,7 @@ use Rattle.sw_ring.specs.Cluster.{ClusterModel}
 use Rattle.sw_message.specs.Message.{is_primary}
 use Rattle.sw_message.specs.Spoil.{IsArchiveOf}
 use Rattle.sw_message.specs.Step.{AreChanged, Folders, IsFound}
-use Rattle.sw_message.specs.Table.{ArePurged, Found, answers, answers_after, durable_text, plain_text}
+use Rattle.sw_message.specs.Table.{ArePurged, AskListed, CommitRenamed, FetchRead, Found, answers, answers_after, durable_text, plain_text}
 use Rattle.sw_message.specs.declared.message.Msg.TheVariants as message
 use Rattle.sw_message.specs.declared.reply.Reply.TheVariants as reply
 use Rattle.sw_law_scene.specs.Devices.{IsDeviceStep, IsFree, capacity_of, no_folders, size_of}
@@ -188,12 +188,7 @@ module _ (cluster : ClusterModel) (device : ℕ) (place : PlaceModel) (stamp ind
       found = finds false;
       is_found = is_found false is;
       handling = answers_after folder (commit_calls folder (plain_text stamp index) (durable_text stamp index)) (Rename (plain_text stamp index) (durable_text stamp index) ∷ []) reply.Committed;
-      handled = inr (inl (
-        (Contains-first (named false) [], λ has. absurd (cc (only (named false) (named true) has))),
-        [],
-        purges_none stamp index (is_primary cluster device place),
-        refl,
-      ));
+      handled = CommitRenamed (Contains-first (named false) [], λ has. absurd (cc (only (named false) (named true) has))) [] (purges_none stamp index (is_primary cluster device place)) refl;
       replied = refl;
       changed = becomes_durable;
     };
@@ -211,7 +206,7 @@ module _ (cluster : ClusterModel) (device : ℕ) (place : PlaceModel) (stamp ind
       found = finds true;
       is_found = is_found true is;
       handling = answers folder (reply.Held (lists_one stamp index));
-      handled = (lists_one stamp index, lists_it stamp index, refl);
+      handled = AskListed (lists_one stamp index) (lists_it stamp index) refl;
       replied = refl;
       changed = unchanged (kept_folders true);
     };
@@ -226,7 +221,7 @@ module _ (cluster : ClusterModel) (device : ℕ) (place : PlaceModel) (stamp ind
       found = finds true;
       is_found = is_found true is;
       handling = answers_after folder (ReadFile folder (durable_text stamp index) ∷ []) [] (reply.Fragment bytes);
-      handled = inr (true, Contains-first (named true) [], inl (archive, refl));
+      handled = FetchRead true (Contains-first (named true) []) archive refl;
       replied = refl;
       changed = unchanged (kept_folders true);
     };
@@ -245,7 +240,7 @@ lists_none cluster device place = record {
       room_is = refl;
     };
     handling = answers (folder_of place) (reply.Held lists_nothing);
-    handled = (lists_nothing, lists_no_name, refl);
+    handled = AskListed lists_nothing lists_no_name refl;
     replied = refl;
     changed = record { changed = refl; others = λ other apart. refl };
   };

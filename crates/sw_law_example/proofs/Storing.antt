@@ -1,5 +1,5 @@
 -- A device that has no file stores a fragment.
-use Rattle.std.proofs.Common.{inr, ℕ, ◌≤◌, true, cond, List, [], ◌∷◌, length, refl, ap, arith}
+use Rattle.std.proofs.Common.{ℕ, ◌≤◌, true, cond, List, [], ◌∷◌, length, refl, ap, arith}
 use Rattle.std.proofs.lemmas.Option.{none-some}
 use Rattle.sw_disk.specs.Folder.{File, same_name}
 use Rattle.sw_disk.proofs.Images.{same_name-refl}
@@ -14,7 +14,7 @@ use Rattle.sw_diskfile.proofs.Lists.{Contains-none}
 use Rattle.sw_ring.specs.Cluster.{ClusterModel}
 use Rattle.sw_message.specs.Spoil.{IsArchiveOf}
 use Rattle.sw_message.specs.Step.{Folders}
-use Rattle.sw_message.specs.Table.{Found, answers_after, plain_text}
+use Rattle.sw_message.specs.Table.{Found, PutFragStored, answers_after, plain_text}
 use Rattle.sw_message.specs.declared.message.Msg.TheVariants as message
 use Rattle.sw_message.specs.declared.reply.Reply.TheVariants as reply
 use Rattle.sw_law_scene.specs.Devices.{IsDeviceStep, IsFree, capacity_of, no_folders}
@@ -57,13 +57,7 @@ module _ (cluster : ClusterModel) (device : ℕ) (place : PlaceModel) (stamp ind
         room_is = refl;
       };
       handling = answers_after (folder_of place) (store_calls (folder_of place) (plain_text stamp index) bytes) (new_file (plain_text stamp index) bytes ∷ []) reply.Synced;
-      handled = inr (
-        archive,
-        inr (
-          (λ floor covered. no_floor_at floor.stamp floor.kind covered.0.0),
-          inr ((λ durable has. Contains-none _ has), inr (fits, refl)),
-        ),
-      );
+      handled = PutFragStored archive (λ floor covered. no_floor_at floor.stamp floor.kind covered.0.0) (λ durable has. Contains-none _ has) fits refl;
       replied = refl;
       changed = record {
         changed = ap (λ is_same. cond is_same (stored_file ∷ []) []) (same_name-refl (folder_of place));

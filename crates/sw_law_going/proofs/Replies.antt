@@ -8,7 +8,7 @@ use Rattle.sw_hashpath.specs.Place.{PlaceModel}
 use Rattle.sw_ring.specs.Cluster.{ClusterModel}
 use Rattle.sw_message.specs.Spoil.{IsArchiveOf}
 use Rattle.sw_message.specs.Step.{Folders}
-use Rattle.sw_message.specs.Table.{Found, Handling, HandlesFetch}
+use Rattle.sw_message.specs.Table.{FetchGone, FetchRead, FetchSpoiled, Found, HandlesFetch, Handling}
 use Rattle.sw_message.specs.declared.message.Msg.{Msg}
 use Rattle.sw_message.specs.declared.message.Msg.TheVariants as message
 use Rattle.sw_message.specs.declared.reply.Reply.{Reply}
@@ -40,9 +40,9 @@ module _ (cluster : ClusterModel) where
     HandledRight handling = IsRight cluster (message.Fetch place stamp index) handling.reply
 
     fetched_right : (found : Found) (handling : Handling) → HandlesFetch cluster place stamp index found handling → HandledRight handling
-    fetched_right found handling (inl (lacks, listing, is, same)) = subst HandledRight (sym same) tt
-    fetched_right found handling (inr (durable, has, inl (archive, same))) = subst HandledRight (sym same) archive
-    fetched_right found handling (inr (durable, has, inr (spoil, is, same))) = subst HandledRight (sym same) tt
+    fetched_right found handling (FetchGone lacks listing is same) = subst HandledRight (sym same) tt
+    fetched_right found handling (FetchRead durable has archive same) = subst HandledRight (sym same) archive
+    fetched_right found handling (FetchSpoiled durable has spoil is same) = subst HandledRight (sym same) tt
 
   stepped_right : (device : ℕ) (msg : Msg) (given : Reply) (before after : Folders) → IsDeviceStep cluster device msg given before after → IsRight cluster msg given
   stepped_right device (message.Fetch place stamp index) given before after is =

@@ -18,7 +18,7 @@ use Rattle.sw_hashdir.specs.declared.floor.FloorKind.TheVariants as kind
 use Rattle.sw_diskfile.specs.Changes.{new_file}
 use Rattle.sw_message.specs.Message.{is_primary, place_in}
 use Rattle.sw_message.specs.Step.{Folders, IsFound}
-use Rattle.sw_message.specs.Table.{Found, Handling, HandlesAsk, HandlesCommit, HandlesDelete, HandlesFetch, HandlesPutFrag, HandlesRemove, IsHandled, durable_text, plain_text, tombstone_text}
+use Rattle.sw_message.specs.Table.{AskListed, CommitMissing, CommitRenamed, CommitSuperseded, CommitThere, DeleteSuperseded, DeleteThere, DeleteWritten, FetchGone, FetchRead, FetchSpoiled, Found, HandlesAsk, HandlesCommit, HandlesDelete, HandlesFetch, HandlesPutFrag, HandlesRemove, Handling, IsHandled, PutFragFull, PutFragSpoiled, PutFragStored, PutFragSuperseded, PutFragThere, RemoveDropped, RemoveKept, RemoveMissing, durable_text, plain_text, tombstone_text}
 use Rattle.sw_message.specs.declared.message.Msg.{Msg}
 use Rattle.sw_message.specs.declared.message.Msg.TheVariants as message
 use Rattle.sw_message.specs.declared.reply.Reply.TheVariants as reply
@@ -79,45 +79,45 @@ module _ (scene : Scene) (by : ℕ) (place : PlaceModel) where
 
     -- an archive is stored
     put_row : (stamp index : ℕ) (bytes : List ℕ) → WasPut scene place stamp by → HandlesPutFrag scene.cluster place stamp index bytes found handling → IsFine handling
-    put_row stamp index bytes put (inl (spoil, spoils, same)) = quiet _ same refl tt
-    put_row stamp index bytes put (inr (archive, inl (floor, covered, same))) = quiet _ same refl (refused floor covered.0)
-    put_row stamp index bytes put (inr (archive, inr (uncovered, inl (durable, has, same)))) = quiet _ same refl tt
-    put_row stamp index bytes put (inr (archive, inr (uncovered, inr (lacks, inl (full, same))))) = quiet _ same refl tt
-    put_row stamp index bytes put (inr (archive, inr (uncovered, inr (lacks, inr (fits, same))))) =
+    put_row stamp index bytes put (PutFragSpoiled spoil spoils same) = quiet _ same refl tt
+    put_row stamp index bytes put (PutFragSuperseded archive floor covered same) = quiet _ same refl (refused floor covered.0)
+    put_row stamp index bytes put (PutFragThere archive uncovered durable has same) = quiet _ same refl tt
+    put_row stamp index bytes put (PutFragFull archive uncovered lacks full same) = quiet _ same refl tt
+    put_row stamp index bytes put (PutFragStored archive uncovered lacks fits same) =
         makes _ (new_file (plain_text stamp index) bytes) [] same refl
         (made_named Holds (Data stamp index false) (archive_name scene.cluster place stamp index bytes archive) (record { put = put; decided = λ durable. absurd (cc) })) tt
 
     -- an archive becomes durable
     commit_row : (primary : Bool) (stamp index : ℕ) → IsEntryBy scene place stamp true by → HandlesCommit primary place stamp index found handling → IsFine handling
-    commit_row primary stamp index entry (inl (durable, same)) = quiet _ same refl tt
-    commit_row primary stamp index entry (inr (inl (plain, obsolete, purged, same))) =
+    commit_row primary stamp index entry (CommitThere durable same) = quiet _ same refl tt
+    commit_row primary stamp index entry (CommitRenamed plain obsolete purged same) =
         makes _ (Rename (plain_text stamp index) (durable_text stamp index)) obsolete same refl
         (λ file named was. made_named Holds (Data stamp index true) ((is.directory (Data stamp index false)).0 plain.0).0 entry) tt
-    commit_row primary stamp index entry (inr (inr (lacks, inl (floor, covered, same)))) = quiet _ same refl (refused floor covered.0)
-    commit_row primary stamp index entry (inr (inr (lacks, inr (uncovered, same)))) = quiet _ same refl tt
+    commit_row primary stamp index entry (CommitSuperseded lacks floor covered same) = quiet _ same refl (refused floor covered.0)
+    commit_row primary stamp index entry (CommitMissing lacks uncovered same) = quiet _ same refl tt
 
     -- a tombstone is written
     delete_row : (primary : Bool) (stamp : ℕ) → stamp ≤ greatest_stamp → WasDeleted scene place stamp by → HandlesDelete primary place stamp found handling → IsFine handling
-    delete_row primary stamp stamped deleted (inl (floor, refuses, same)) = quiet _ same refl (refused floor refuses.0)
-    delete_row primary stamp stamped deleted (inr (allows, existed, tells, inl (has, same))) = quiet _ same refl tt
-    delete_row primary stamp stamped deleted (inr (allows, existed, tells, inr (lacks, obsolete, purged, same))) =
+    delete_row primary stamp stamped deleted (DeleteSuperseded floor refuses same) = quiet _ same refl (refused floor refuses.0)
+    delete_row primary stamp stamped deleted (DeleteThere allows existed tells has same) = quiet _ same refl tt
+    delete_row primary stamp stamped deleted (DeleteWritten allows existed tells lacks obsolete purged same) =
         makes _ (new_file (tombstone_text stamp) []) obsolete same refl (made_named Holds (Tombstone stamp) stamped deleted) tt
 
     -- the folder is listed
     ask_row : HandlesAsk place found handling → IsFine handling
-    ask_row (listing, lists, same) = quiet _ same refl (listed listing lists)
+    ask_row (AskListed listing lists same) = quiet _ same refl (listed listing lists)
 
     -- an archive is read
     fetch_row : (stamp index : ℕ) → HandlesFetch scene.cluster place stamp index found handling → IsFine handling
-    fetch_row stamp index (inl (lacks, listing, lists, same)) = quiet _ same refl (listed listing lists)
-    fetch_row stamp index (inr (durable, has, inl (archive, same))) = quiet _ same refl tt
-    fetch_row stamp index (inr (durable, has, inr (spoil, spoils, same))) = quiet _ same refl tt
+    fetch_row stamp index (FetchGone lacks listing lists same) = quiet _ same refl (listed listing lists)
+    fetch_row stamp index (FetchRead durable has archive same) = quiet _ same refl tt
+    fetch_row stamp index (FetchSpoiled durable has spoil spoils same) = quiet _ same refl tt
 
     -- an archive goes from a handoff
     remove_row : (primary : Bool) (stamp index : ℕ) → HandlesRemove primary place stamp index found handling → IsFine handling
-    remove_row primary stamp index (inl (kept, same)) = quiet _ same refl tt
-    remove_row primary stamp index (inr (handoff, inl (lacks, same))) = quiet _ same refl tt
-    remove_row primary stamp index (inr (handoff, inr (durable, has, same))) = makes _ (Remove (file_name_text (Data stamp index durable))) [] same refl tt tt
+    remove_row primary stamp index (RemoveKept kept same) = quiet _ same refl tt
+    remove_row primary stamp index (RemoveMissing handoff lacks same) = quiet _ same refl tt
+    remove_row primary stamp index (RemoveDropped handoff durable has same) = makes _ (Remove (file_name_text (Data stamp index durable))) [] same refl tt tt
 
 -- ---- the table
 

@@ -14,7 +14,7 @@ use Rattle.sw_ring.specs.Cluster.{ClusterModel}
 use Rattle.sw_message.specs.Learnt.{Booked, IsSoundBook}
 use Rattle.sw_message.specs.Spoil.{IsArchiveOf}
 use Rattle.sw_message.specs.Step.{IsFound}
-use Rattle.sw_message.specs.Table.{Found, Handling, HandlesAsk, HandlesCommit, HandlesDelete, HandlesFetch, HandlesPutFrag, HandlesRemove}
+use Rattle.sw_message.specs.Table.{AskListed, CommitMissing, CommitRenamed, CommitSuperseded, CommitThere, DeleteSuperseded, DeleteThere, DeleteWritten, FetchGone, FetchRead, Found, HandlesAsk, HandlesCommit, HandlesDelete, HandlesFetch, HandlesPutFrag, HandlesRemove, Handling, PutFragFull, PutFragStored, PutFragSuperseded, PutFragThere, RemoveDropped, RemoveKept, RemoveMissing}
 use Rattle.sw_message.specs.Warrant.{IsOfPut}
 use Rattle.sw_diskfile.proofs.Spelt.{directory_of}
 use Rattle.sw_law_possible.proofs.Listings.{listing_of}
@@ -52,26 +52,26 @@ found_in files room =
 module _ (cluster : ClusterModel) (place : PlaceModel) (found : Found) where
   pub put_row : (stamp index : ℕ) (bytes : List ℕ) → IsArchiveOf cluster place stamp index bytes → (handling : Handling) × HandlesPutFrag cluster place stamp index bytes found handling
   put_row stamp index bytes archive = ⊎_elim
-      (λ covered. (_, inr (archive, inl (covered.0, covered.1, refl))))
+      (λ covered. (_, PutFragSuperseded archive covered.0 covered.1 refl))
       (λ uncovered. ⊎_elim
-      (λ has. (_, inr (archive, inr (uncovered, inl (has.0, has.1, refl)))))
+      (λ has. (_, PutFragThere archive uncovered has.0 has.1 refl))
       (λ lacks. ⊎_elim
-      (λ full. (_, inr (archive, inr (uncovered, inr (lacks, inl (full, refl))))))
-      (λ fits. (_, inr (archive, inr (uncovered, inr (lacks, inr (fits, refl))))))
+      (λ full. (_, PutFragFull archive uncovered lacks full refl))
+      (λ fits. (_, PutFragStored archive uncovered lacks fits refl))
       (cases_lt found.room (length bytes)))
       (entry_or_lacks found.names stamp index))
       (covered_or_not found.names stamp)
 
   commit_by : (primary : Bool) (stamp index : ℕ) (durable : Bool) → HasEntryAt found.names stamp index durable → (handling : Handling) × HandlesCommit primary place stamp index found handling
-  commit_by primary stamp index true has = (_, inl (has, refl))
-  commit_by primary stamp index false has = let obsolete = purged (Data stamp index true) found.names primary in (_, inr (inl (has, obsolete.0, obsolete.1, refl)))
+  commit_by primary stamp index true has = (_, CommitThere has refl)
+  commit_by primary stamp index false has = let obsolete = purged (Data stamp index true) found.names primary in (_, CommitRenamed has obsolete.0 obsolete.1 refl)
 
   pub commit_row : (primary : Bool) (stamp index : ℕ) → (handling : Handling) × HandlesCommit primary place stamp index found handling
   commit_row primary stamp index = ⊎_elim
       (λ has. commit_by primary stamp index has.0 has.1)
       (λ lacks. ⊎_elim
-      (λ covered. (_, inr (inr (lacks, inl (covered.0, covered.1, refl)))))
-      (λ uncovered. (_, inr (inr (lacks, inr (uncovered, refl)))))
+      (λ covered. (_, CommitSuperseded lacks covered.0 covered.1 refl))
+      (λ uncovered. (_, CommitMissing lacks uncovered refl))
       (covered_or_not found.names stamp))
       (entry_or_lacks found.names stamp index)
 
@@ -79,25 +79,25 @@ module _ (cluster : ClusterModel) (place : PlaceModel) (found : Found) where
   delete_row primary stamp =
       let existed = existed_or_not found.names in
       ⊎_elim
-      (λ refused. (_, inl (refused.0, refused.1, refl)))
+      (λ refused. (_, DeleteSuperseded refused.0 refused.1 refl))
       (λ allows. ⊎_elim
-      (λ has. (_, inr (allows, existed.0, existed.1, inl (has, refl))))
-      (λ lacks. let obsolete = purged (Tombstone stamp) found.names primary in (_, inr (allows, existed.0, existed.1, inr (lacks, obsolete.0, obsolete.1, refl))))
+      (λ has. (_, DeleteThere allows existed.0 existed.1 has refl))
+      (λ lacks. let obsolete = purged (Tombstone stamp) found.names primary in (_, DeleteWritten allows existed.0 existed.1 lacks obsolete.0 obsolete.1 refl))
       (among_or_not found.names (Tombstone stamp)))
       (refused_or_not found.names stamp)
 
   pub ask_row : (handling : Handling) × HandlesAsk place found handling
-  ask_row = let listing = listing_of found.names in (_, (listing.0, listing.1, refl))
+  ask_row = let listing = listing_of found.names in (_, AskListed listing.0 listing.1 refl)
 
   pub fetch_row : (stamp index : ℕ) → ((durable : Bool) → HasEntryAt found.names stamp index durable → IsArchiveOf cluster place stamp index (found.bytes (Data stamp index durable))) → (handling : Handling) × HandlesFetch cluster place stamp index found handling
   fetch_row stamp index archive = ⊎_elim
-      (λ has. (_, inr (has.0, has.1, inl (archive has.0 has.1, refl))))
-      (λ lacks. let listing = listing_of found.names in (_, inl (lacks, listing.0, listing.1, refl)))
+      (λ has. (_, FetchRead has.0 has.1 (archive has.0 has.1) refl))
+      (λ lacks. let listing = listing_of found.names in (_, FetchGone lacks listing.0 listing.1 refl))
       (entry_or_lacks found.names stamp index)
 
   pub remove_row : (primary : Bool) (stamp index : ℕ) → (handling : Handling) × HandlesRemove primary place stamp index found handling
-  remove_row true stamp index = (_, inl (refl, refl))
+  remove_row true stamp index = (_, RemoveKept refl refl)
   remove_row false stamp index = ⊎_elim
-      (λ has. (_, inr (refl, inr (has.0, has.1, refl))))
-      (λ lacks. (_, inr (refl, inl (lacks, refl))))
+      (λ has. (_, RemoveDropped refl has.0 has.1 refl))
+      (λ lacks. (_, RemoveMissing refl lacks refl))
       (entry_or_lacks found.names stamp index)

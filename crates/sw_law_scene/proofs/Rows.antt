@@ -12,7 +12,7 @@ use Rattle.sw_ring.specs.Cluster.{ClusterModel}
 use Rattle.sw_message.specs.Learnt.{IsGenuine, IsSoundBook, Learnt}
 use Rattle.sw_message.specs.Message.{is_primary, place_in}
 use Rattle.sw_message.specs.Step.{Folders, IsFound}
-use Rattle.sw_message.specs.Table.{Found, Handling, HandlesAsk, HandlesCommit, HandlesDelete, HandlesFetch, HandlesPutFrag, HandlesRemove, IsHandled, durable_text, plain_text, tombstone_text}
+use Rattle.sw_message.specs.Table.{AskListed, CommitMissing, CommitRenamed, CommitSuperseded, CommitThere, DeleteSuperseded, DeleteThere, DeleteWritten, FetchGone, FetchRead, FetchSpoiled, Found, HandlesAsk, HandlesCommit, HandlesDelete, HandlesFetch, HandlesPutFrag, HandlesRemove, Handling, IsHandled, PutFragFull, PutFragSpoiled, PutFragStored, PutFragSuperseded, PutFragThere, RemoveDropped, RemoveKept, RemoveMissing, durable_text, plain_text, tombstone_text}
 use Rattle.sw_message.specs.Warrant.{IsOfPut, IsWarranted}
 use Rattle.sw_message.specs.declared.message.Msg.{Msg}
 use Rattle.sw_message.specs.declared.message.Msg.TheVariants as message
@@ -34,11 +34,11 @@ module _ (cluster : ClusterModel) (learnt : Learnt) (place : PlaceModel) (files 
   quiet Warranted other same still genuine = by Warranted other same (λ warranted. subst (Leave cluster learnt.book place) (sym still) (none cluster learnt.book place), genuine)
 
   put-row : (stamp index : ℕ) (bytes : List ℕ) → HandlesPutFrag cluster place stamp index bytes found handling → IsFine cluster learnt place (IsOfPut cluster learnt.book place stamp index bytes) handling
-  put-row stamp index bytes (inl (spoil, spoils, same)) = quiet _ _ same refl tt
-  put-row stamp index bytes (inr (archive, inl (floor, covered, same))) = quiet _ _ same refl tt
-  put-row stamp index bytes (inr (archive, inr (uncovered, inl (durable, has, same)))) = quiet _ _ same refl tt
-  put-row stamp index bytes (inr (archive, inr (uncovered, inr (lacks, inl (full, same))))) = quiet _ _ same refl tt
-  put-row stamp index bytes (inr (archive, inr (uncovered, inr (lacks, inr (fits, same))))) =
+  put-row stamp index bytes (PutFragSpoiled spoil spoils same) = quiet _ _ same refl tt
+  put-row stamp index bytes (PutFragSuperseded archive floor covered same) = quiet _ _ same refl tt
+  put-row stamp index bytes (PutFragThere archive uncovered durable has same) = quiet _ _ same refl tt
+  put-row stamp index bytes (PutFragFull archive uncovered lacks full same) = quiet _ _ same refl tt
+  put-row stamp index bytes (PutFragStored archive uncovered lacks fits same) =
       by _ _ same (
         λ warranted. All-cons (Keeps (IsFiled cluster learnt.book place)) (new_file (plain_text stamp index) bytes) [] (archive-leaves cluster learnt.book place sound stamp index bytes warranted)
             (none cluster learnt.book place),
@@ -46,20 +46,20 @@ module _ (cluster : ClusterModel) (learnt : Learnt) (place : PlaceModel) (files 
       )
 
   commit-row : (Warranted : Type 0) (primary : Bool) (stamp index : ℕ) → HandlesCommit primary place stamp index found handling → IsFine cluster learnt place Warranted handling
-  commit-row Warranted primary stamp index (inl (durable, same)) = quiet _ _ same refl tt
-  commit-row Warranted primary stamp index (inr (inl (plain, obsolete, purged, same))) =
+  commit-row Warranted primary stamp index (CommitThere durable same) = quiet _ _ same refl tt
+  commit-row Warranted primary stamp index (CommitRenamed plain obsolete purged same) =
       by _ _ same (
         λ warranted. All-cons (Keeps (IsFiled cluster learnt.book place)) (Rename (plain_text stamp index) (durable_text stamp index)) (map Remove obsolete)
             (commit-leaves cluster learnt.book place stamp index ((is.directory (Data stamp index false)).0 plain.0).0) (removals-keep (IsFiled cluster learnt.book place) obsolete),
         tt,
       )
-  commit-row Warranted primary stamp index (inr (inr (lacks, inl (floor, covered, same)))) = quiet _ _ same refl tt
-  commit-row Warranted primary stamp index (inr (inr (lacks, inr (uncovered, same)))) = quiet _ _ same refl tt
+  commit-row Warranted primary stamp index (CommitSuperseded lacks floor covered same) = quiet _ _ same refl tt
+  commit-row Warranted primary stamp index (CommitMissing lacks uncovered same) = quiet _ _ same refl tt
 
   delete-row : (Warranted : Type 0) (primary : Bool) (stamp : ℕ) → HandlesDelete primary place stamp found handling → IsFine cluster learnt place Warranted handling
-  delete-row Warranted primary stamp (inl (floor, refuses, same)) = quiet _ _ same refl tt
-  delete-row Warranted primary stamp (inr (allows, existed, was, inl (has, same))) = quiet _ _ same refl tt
-  delete-row Warranted primary stamp (inr (allows, existed, was, inr (lacks, obsolete, purged, same))) =
+  delete-row Warranted primary stamp (DeleteSuperseded floor refuses same) = quiet _ _ same refl tt
+  delete-row Warranted primary stamp (DeleteThere allows existed was has same) = quiet _ _ same refl tt
+  delete-row Warranted primary stamp (DeleteWritten allows existed was lacks obsolete purged same) =
       by _ _ same (
         λ warranted. All-cons (Keeps (IsFiled cluster learnt.book place)) (new_file (tombstone_text stamp) []) (map Remove obsolete) (tombstone-leaves cluster learnt.book place stamp)
             (removals-keep (IsFiled cluster learnt.book place) obsolete),
@@ -67,17 +67,17 @@ module _ (cluster : ClusterModel) (learnt : Learnt) (place : PlaceModel) (files 
       )
 
   ask-row : (Warranted : Type 0) → HandlesAsk place found handling → IsFine cluster learnt place Warranted handling
-  ask-row Warranted (listing, lists, same) = quiet _ _ same refl tt
+  ask-row Warranted (AskListed listing lists same) = quiet _ _ same refl tt
 
   fetch-row : (Warranted : Type 0) (stamp index : ℕ) → HandlesFetch cluster place stamp index found handling → IsFine cluster learnt place Warranted handling
-  fetch-row Warranted stamp index (inl (lacks, listing, lists, same)) = quiet _ _ same refl tt
-  fetch-row Warranted stamp index (inr (durable, has, inl (archive, same))) = quiet _ _ same refl (fetched cluster learnt sound place files filed room found is stamp index durable has)
-  fetch-row Warranted stamp index (inr (durable, has, inr (spoil, spoils, same))) = quiet _ _ same refl tt
+  fetch-row Warranted stamp index (FetchGone lacks listing lists same) = quiet _ _ same refl tt
+  fetch-row Warranted stamp index (FetchRead durable has archive same) = quiet _ _ same refl (fetched cluster learnt sound place files filed room found is stamp index durable has)
+  fetch-row Warranted stamp index (FetchSpoiled durable has spoil spoils same) = quiet _ _ same refl tt
 
   remove-row : (Warranted : Type 0) (primary : Bool) (stamp index : ℕ) → HandlesRemove primary place stamp index found handling → IsFine cluster learnt place Warranted handling
-  remove-row Warranted primary stamp index (inl (kept, same)) = quiet _ _ same refl tt
-  remove-row Warranted primary stamp index (inr (handoff, inl (lacks, same))) = quiet _ _ same refl tt
-  remove-row Warranted primary stamp index (inr (handoff, inr (durable, has, same))) =
+  remove-row Warranted primary stamp index (RemoveKept kept same) = quiet _ _ same refl tt
+  remove-row Warranted primary stamp index (RemoveMissing handoff lacks same) = quiet _ _ same refl tt
+  remove-row Warranted primary stamp index (RemoveDropped handoff durable has same) =
       by _ _ same (
         λ warranted. All-cons (Keeps (IsFiled cluster learnt.book place)) (Remove (file_name_text (Data stamp index durable))) [] tt (none cluster learnt.book place),
         tt,

@@ -4,7 +4,7 @@ use Rattle.std.proofs.lemmas.Option.{none-some, same_Some}
 use Rattle.sw_ring.specs.Cluster.{ClusterModel}
 use Rattle.sw_message.specs.Learnt.{AreKnown, HasOwn, IsGenuine, IsSoundBook, Keeps, KnowsReplies, Learnt, Nothing, Own, OwnDelete, OwnPut}
 use Rattle.sw_message.specs.Running.{AreCalls, CountsLoss, Hears, MayRun, StillTells, TellsSoundly}
-use Rattle.sw_message.specs.Transcript.{Closed, Gave, Hand, IsRun, Next, Step, after_answer, open_at, opens}
+use Rattle.sw_message.specs.Transcript.{Closed, Gave, Hand, IsRun, Next, Step, after_answer, opens}
 use Rattle.sw_message.specs.declared.link.Link as link
 use Rattle.sw_message.specs.declared.operation.Operation as operation
 use Rattle.sw_message.specs.declared.reply.Reply.{Reply}

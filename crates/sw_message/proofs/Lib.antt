@@ -4,7 +4,7 @@ pub mod Directories
 pub mod Distinct
 pub mod FloorLaws
 pub mod Going
-mod Handlings
+pub mod Handlings
 pub mod Highest
 pub mod Soundly
 pub mod Spoils

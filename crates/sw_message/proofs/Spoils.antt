@@ -5,7 +5,6 @@ use Rattle.sw_types.specs.Name.{NameModel}
 use Rattle.sw_types.specs.Policy.{PolicyModel}
 use Rattle.sw_hashpath.specs.Place.{PlaceModel}
 use Rattle.sw_archive.specs.Archive.{ArchiveModel, IsArchive}
-use Rattle.sw_archive.specs.Fault.{IsFault}
 use Rattle.sw_archive.proofs.Archives.{one_archive}
 use Rattle.sw_archive.proofs.Faults.{no_fault, one_fault}
 use Rattle.sw_ring.specs.Cluster.{ClusterModel}

@@ -1,4 +1,4 @@
--- The table of a node: how it handles each message about a place, one line for each row.
+-- The table of a node: how it handles each message about a place, one constructor for each row.
 use Rattle.std.specs.Prelude.{◌≡◌, ◌⊎◌, ◌↔◌, ℕ, ◌<◌, ◌≤◌, Bool, true, false, List, [], ◌∷◌, ◌++◌, Contains, length, map, Some}
 use Rattle.std.specs.List.{AllPairs}
 use Rattle.std.specs.Cmp.Lexicographic.{slice_cmp}
@@ -47,6 +47,10 @@ answers folder reply = record { reply = reply; calls = ListNames folder ∷ []; 
 abbrev pub answers_after : List ℕ → List Call → List Change → Reply → Handling
 answers_after folder calls changes reply = record { reply = reply; calls = ListNames folder ∷ calls; changes = changes }
 
+-- the file of a name is read
+abbrev pub read_calls : List ℕ → FileName → List Call
+read_calls folder name = ReadFile folder (file_name_text name) ∷ []
+
 -- ---- what decides
 
 abbrev pub plain_text : (stamp index : ℕ) → List ℕ
@@ -90,63 +94,72 @@ pub record ArePurged (is_primary : Bool) (made : FileName) (names : List FileNam
 -- ---- the rows
 
 -- an archive is stored unless it is spoiled, the floor stands above it, it is there, or the disk is full
-abbrev pub HandlesPutFrag : ClusterModel → PlaceModel → (stamp index : ℕ) → List ℕ → Found → Handling → Type 0
-HandlesPutFrag cluster place stamp index bytes found handling =
-    ((spoil : Spoil) × IsSpoil cluster place stamp index bytes spoil × (handling ≡ answers (folder_of place) (Spoiled spoil)))
-    ⊎ (IsArchiveOf cluster place stamp index bytes × (
-    ((floor : Floor) × IsCovered found.names stamp floor × (handling ≡ answers (folder_of place) (Superseded floor)))
-    ⊎ (IsUncovered found.names stamp × (
-    ((durable : Bool) × HasEntryAt found.names stamp index durable × (handling ≡ answers (folder_of place) Synced))
-    ⊎ (LacksEntry found.names stamp index × (
-    ((found.room < length bytes)
-    × (handling ≡ answers_after (folder_of place) (store_calls (folder_of place) (plain_text stamp index) bytes) [] (NoSpace (length bytes) found.room)))
-    ⊎ ((length bytes ≤ found.room)
-    × (handling ≡ answers_after (folder_of place) (store_calls (folder_of place) (plain_text stamp index) bytes) (new_file (plain_text stamp index) bytes ∷ []) Synced))))))))
+pub data HandlesPutFrag (cluster : ClusterModel) (place : PlaceModel) (stamp index : ℕ) (bytes : List ℕ) (found : Found) (handling : Handling) : Type 0 where
+  PutFragSpoiled : (spoil : Spoil) → IsSpoil cluster place stamp index bytes spoil
+      → handling ≡ answers (folder_of place) (Spoiled spoil) → HandlesPutFrag cluster place stamp index bytes found handling
+  PutFragSuperseded : IsArchiveOf cluster place stamp index bytes → (floor : Floor) → IsCovered found.names stamp floor
+      → handling ≡ answers (folder_of place) (Superseded floor) → HandlesPutFrag cluster place stamp index bytes found handling
+  PutFragThere : IsArchiveOf cluster place stamp index bytes → IsUncovered found.names stamp → (durable : Bool) → HasEntryAt found.names stamp index durable
+      → handling ≡ answers (folder_of place) Synced → HandlesPutFrag cluster place stamp index bytes found handling
+  PutFragFull : IsArchiveOf cluster place stamp index bytes → IsUncovered found.names stamp → LacksEntry found.names stamp index → found.room < length bytes
+      → handling ≡ answers_after (folder_of place) (store_calls (folder_of place) (plain_text stamp index) bytes) [] (NoSpace (length bytes) found.room)
+      → HandlesPutFrag cluster place stamp index bytes found handling
+  PutFragStored : IsArchiveOf cluster place stamp index bytes → IsUncovered found.names stamp → LacksEntry found.names stamp index → length bytes ≤ found.room
+      → handling ≡ answers_after (folder_of place) (store_calls (folder_of place) (plain_text stamp index) bytes) (new_file (plain_text stamp index) bytes ∷ []) Synced
+      → HandlesPutFrag cluster place stamp index bytes found handling
 
 -- an entry that is there becomes durable, and what that makes obsolete goes
-abbrev pub HandlesCommit : Bool → PlaceModel → (stamp index : ℕ) → Found → Handling → Type 0
-HandlesCommit primary place stamp index found handling =
-    (HasEntryAt found.names stamp index true × (handling ≡ answers (folder_of place) Committed))
-    ⊎ (HasEntryAt found.names stamp index false × (obsolete : List (List ℕ)) × ArePurged primary (Data stamp index true) found.names obsolete
-    × (handling ≡ answers_after (folder_of place) (commit_calls (folder_of place) (plain_text stamp index) (durable_text stamp index) ++ purge_calls (folder_of place) obsolete)
-    (Rename (plain_text stamp index) (durable_text stamp index) ∷ map Remove obsolete) Committed))
-    ⊎ (LacksEntry found.names stamp index × (
-    ((floor : Floor) × IsCovered found.names stamp floor × (handling ≡ answers (folder_of place) (Superseded floor)))
-    ⊎ (IsUncovered found.names stamp × (handling ≡ answers (folder_of place) Missing))))
+pub data HandlesCommit (primary : Bool) (place : PlaceModel) (stamp index : ℕ) (found : Found) (handling : Handling) : Type 0 where
+  CommitThere : HasEntryAt found.names stamp index true
+      → handling ≡ answers (folder_of place) Committed → HandlesCommit primary place stamp index found handling
+  CommitRenamed : HasEntryAt found.names stamp index false → (obsolete : List (List ℕ)) → ArePurged primary (Data stamp index true) found.names obsolete
+      → handling ≡ answers_after (folder_of place)
+      (commit_calls (folder_of place) (plain_text stamp index) (durable_text stamp index) ++ purge_calls (folder_of place) obsolete)
+      (Rename (plain_text stamp index) (durable_text stamp index) ∷ map Remove obsolete) Committed
+      → HandlesCommit primary place stamp index found handling
+  CommitSuperseded : LacksEntry found.names stamp index → (floor : Floor) → IsCovered found.names stamp floor
+      → handling ≡ answers (folder_of place) (Superseded floor) → HandlesCommit primary place stamp index found handling
+  CommitMissing : LacksEntry found.names stamp index → IsUncovered found.names stamp
+      → handling ≡ answers (folder_of place) Missing → HandlesCommit primary place stamp index found handling
 
 -- a tombstone is written unless the floor refuses it or it is there, and what that makes obsolete goes
-abbrev pub HandlesDelete : Bool → PlaceModel → ℕ → Found → Handling → Type 0
-HandlesDelete primary place stamp found handling =
-    ((floor : Floor) × Refuses found.names stamp floor × (handling ≡ answers (folder_of place) (Superseded floor)))
-    ⊎ (Allows found.names stamp × (existed : Bool) × ((existed ≡ true) ↔ HasDurableFloor found.names) × (
-    (Contains found.names (Tombstone stamp) × (handling ≡ answers (folder_of place) (Deleted existed)))
-    ⊎ ((Contains found.names (Tombstone stamp) → ⊥) × (obsolete : List (List ℕ)) × ArePurged primary (Tombstone stamp) found.names obsolete
-    × (handling ≡ answers_after (folder_of place) (store_calls (folder_of place) (tombstone_text stamp) [] ++ purge_calls (folder_of place) obsolete)
-    (new_file (tombstone_text stamp) [] ∷ map Remove obsolete) (Deleted existed)))))
+pub data HandlesDelete (primary : Bool) (place : PlaceModel) (stamp : ℕ) (found : Found) (handling : Handling) : Type 0 where
+  DeleteSuperseded : (floor : Floor) → Refuses found.names stamp floor
+      → handling ≡ answers (folder_of place) (Superseded floor) → HandlesDelete primary place stamp found handling
+  DeleteThere : Allows found.names stamp → (existed : Bool) → (existed ≡ true) ↔ HasDurableFloor found.names → Contains found.names (Tombstone stamp)
+      → handling ≡ answers (folder_of place) (Deleted existed) → HandlesDelete primary place stamp found handling
+  DeleteWritten : Allows found.names stamp → (existed : Bool) → (existed ≡ true) ↔ HasDurableFloor found.names → (Contains found.names (Tombstone stamp) → ⊥)
+      → (obsolete : List (List ℕ)) → ArePurged primary (Tombstone stamp) found.names obsolete
+      → handling ≡ answers_after (folder_of place) (store_calls (folder_of place) (tombstone_text stamp) [] ++ purge_calls (folder_of place) obsolete)
+      (new_file (tombstone_text stamp) [] ∷ map Remove obsolete) (Deleted existed)
+      → HandlesDelete primary place stamp found handling
 
 -- the folder is listed
-abbrev pub HandlesAsk : PlaceModel → Found → Handling → Type 0
-HandlesAsk place found handling = (listing : ListingModel) × IsListingOf found.names listing × (handling ≡ answers (folder_of place) (Held listing))
+pub data HandlesAsk (place : PlaceModel) (found : Found) (handling : Handling) : Type 0 where
+  AskListed : (listing : ListingModel) → IsListingOf found.names listing
+      → handling ≡ answers (folder_of place) (Held listing) → HandlesAsk place found handling
 
 -- an entry that is there is read
-abbrev pub HandlesFetch : ClusterModel → PlaceModel → (stamp index : ℕ) → Found → Handling → Type 0
-HandlesFetch cluster place stamp index found handling =
-    (LacksEntry found.names stamp index × (listing : ListingModel) × IsListingOf found.names listing × (handling ≡ answers (folder_of place) (Gone listing)))
-    ⊎ ((durable : Bool) × HasEntryAt found.names stamp index durable × (
-    (IsArchiveOf cluster place stamp index (found.bytes (Data stamp index durable))
-    × (handling ≡ answers_after (folder_of place) (ReadFile (folder_of place) (file_name_text (Data stamp index durable)) ∷ []) [] (Fragment (found.bytes (Data stamp index durable)))))
-    ⊎ ((spoil : Spoil) × IsSpoil cluster place stamp index (found.bytes (Data stamp index durable)) spoil
-    × (handling ≡ answers_after (folder_of place) (ReadFile (folder_of place) (file_name_text (Data stamp index durable)) ∷ []) [] (Spoiled spoil)))))
+pub data HandlesFetch (cluster : ClusterModel) (place : PlaceModel) (stamp index : ℕ) (found : Found) (handling : Handling) : Type 0 where
+  FetchGone : LacksEntry found.names stamp index → (listing : ListingModel) → IsListingOf found.names listing
+      → handling ≡ answers (folder_of place) (Gone listing) → HandlesFetch cluster place stamp index found handling
+  FetchRead : (durable : Bool) → HasEntryAt found.names stamp index durable → IsArchiveOf cluster place stamp index (found.bytes (Data stamp index durable))
+      → handling ≡ answers_after (folder_of place) (read_calls (folder_of place) (Data stamp index durable)) [] (Fragment (found.bytes (Data stamp index durable)))
+      → HandlesFetch cluster place stamp index found handling
+  FetchSpoiled : (durable : Bool) → HasEntryAt found.names stamp index durable → (spoil : Spoil)
+      → IsSpoil cluster place stamp index (found.bytes (Data stamp index durable)) spoil
+      → handling ≡ answers_after (folder_of place) (read_calls (folder_of place) (Data stamp index durable)) [] (Spoiled spoil)
+      → HandlesFetch cluster place stamp index found handling
 
 -- an entry that is there goes, where the device is a handoff
-abbrev pub HandlesRemove : Bool → PlaceModel → (stamp index : ℕ) → Found → Handling → Type 0
-HandlesRemove primary place stamp index found handling =
-    ((primary ≡ true) × (handling ≡ answers (folder_of place) Kept))
-    ⊎ ((primary ≡ false) × (
-    (LacksEntry found.names stamp index × (handling ≡ answers (folder_of place) Missing))
-    ⊎ ((durable : Bool) × HasEntryAt found.names stamp index durable
-    × (handling ≡ answers_after (folder_of place) (drop_calls (folder_of place) (file_name_text (Data stamp index durable)))
-    (Remove (file_name_text (Data stamp index durable)) ∷ []) Removed))))
+pub data HandlesRemove (primary : Bool) (place : PlaceModel) (stamp index : ℕ) (found : Found) (handling : Handling) : Type 0 where
+  RemoveKept : primary ≡ true
+      → handling ≡ answers (folder_of place) Kept → HandlesRemove primary place stamp index found handling
+  RemoveMissing : primary ≡ false → LacksEntry found.names stamp index
+      → handling ≡ answers (folder_of place) Missing → HandlesRemove primary place stamp index found handling
+  RemoveDropped : primary ≡ false → (durable : Bool) → HasEntryAt found.names stamp index durable
+      → handling ≡ answers_after (folder_of place) (drop_calls (folder_of place) (file_name_text (Data stamp index durable))) (Remove (file_name_text (Data stamp index durable)) ∷ []) Removed
+      → HandlesRemove primary place stamp index found handling
 
 -- the table, for a device of the cluster
 abbrev pub IsHandled : ClusterModel → ℕ → Found → Msg → Handling → Type 0

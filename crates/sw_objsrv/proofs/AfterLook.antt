@@ -23,7 +23,7 @@ use Rattle.sw_hashdir.specs.declared.floor.Floor.{Floor}
 use Rattle.sw_diskfile.specs.Changes.{IsAsBefore, Keeps, new_file}
 use Rattle.sw_diskfile.specs.Names.{IsDirectoryOf, RunsUnlessMemory, MakesName}
 use Rattle.sw_diskfile.proofs.Tidied.{look_done}
-use Rattle.sw_message.specs.Table.{Found, Handling, answers_after, Allows, HandlesCommit, HandlesDelete, HandlesRemove, HasDurableFloor, durable_text, plain_text, tombstone_text}
+use Rattle.sw_message.specs.Table.{Allows, CommitRenamed, DeleteWritten, Found, HandlesCommit, HandlesDelete, HandlesRemove, Handling, HasDurableFloor, RemoveDropped, answers_after, durable_text, plain_text, tombstone_text}
 use Rattle.sw_message.specs.declared.reply.Reply.{Reply}
 use Rattle.sw_objsrv.specs.Changing.{HandlesAfterLook, IsAtOnce, RunsAfterLook, Drops, MakesAndPurges, WantsMemoryFirst}
 use Rattle.sw_objsrv.specs.Folder.{IsInOrder, StaysInOrder}
@@ -173,7 +173,7 @@ module _ {D : Type 0} (seen : D → Seen) (left_since : D → Past) (place : Pla
         reply = Committed;
         calls = commit_calls folder (plain_text stamp index) (durable_text stamp index) ++ purge_calls folder made.0;
         changes = Rename (plain_text stamp index) (durable_text stamp index) ∷ map Remove made.0;
-        row = λ bytes room. inr (inl (plain, made.0, made.1, refl));
+        row = λ bytes room. CommitRenamed plain made.0 made.1 refl;
         runs = runs_given seen left_since folder Committed (commit_calls folder (plain_text stamp index) (durable_text stamp index) ++ purge_calls folder made.0) result a b tt other is made.2 made.3;
       }))
       makes
@@ -186,7 +186,7 @@ module _ {D : Type 0} (seen : D → Seen) (left_since : D → Past) (place : Pla
         reply = Deleted existed;
         calls = store_calls folder (tombstone_text stamp) [] ++ purge_calls folder made.0;
         changes = new_file (tombstone_text stamp) [] ∷ map Remove made.0;
-        row = λ bytes room. inr (allows, existed, durable, inr (lacks, made.0, made.1, refl));
+        row = λ bytes room. DeleteWritten allows existed durable lacks made.0 made.1 refl;
         runs = runs_given seen left_since folder (Deleted existed) (store_calls folder (tombstone_text stamp) [] ++ purge_calls folder made.0) result a b tt other is made.2 made.3;
       }))
       makes
@@ -201,7 +201,7 @@ module _ {D : Type 0} (seen : D → Seen) (left_since : D → Past) (place : Pla
         reply = Removed;
         calls = drop_calls folder text;
         changes = Remove text ∷ [];
-        row = λ bytes room. inr (handoff, inr (entry.durable, has, refl));
+        row = λ bytes room. RemoveDropped handoff entry.durable has refl;
         runs = runs_given seen left_since folder Removed (drop_calls folder text) result a b tt other is runs.0 runs.1;
       }))
       drops

@@ -1,5 +1,5 @@
 -- The reading of an entry: its file was read, or that was stopped.
-use Rattle.std.proofs.Common.{◌≡◌, ◌⊎◌, inl, inr, ℕ, List, [], ◌∷◌, Option, None, Some, Ok, Err, refl, sym, ap, subst, ◌∙◌, Result}
+use Rattle.std.proofs.Common.{◌≡◌, inl, inr, ℕ, List, [], ◌∷◌, Option, None, Some, Ok, Err, refl, sym, ap, subst, ◌∙◌, Result}
 use Rattle.sw_disk.specs.Answers.{HasBytes, IsNotFull}
 use Rattle.sw_disk.specs.Calls.{Call, ListNames, ReadFile}
 use Rattle.sw_disk.specs.Folder.{Content, File, content_at, files_of}
@@ -17,10 +17,9 @@ use Rattle.sw_diskfile.specs.Names.{IsDirectoryOf, RunsUnlessMemory}
 use Rattle.sw_diskfile.proofs.Tidied.{look_done}
 use Rattle.sw_ring.specs.Cluster.{ClusterModel}
 use Rattle.sw_message.specs.Spoil.{IsArchiveOf, IsSpoil}
-use Rattle.sw_message.specs.Table.{Found, HandlesFetch, answers_after}
+use Rattle.sw_message.specs.Table.{FetchRead, FetchSpoiled, Found, HandlesFetch, answers_after, read_calls}
 use Rattle.sw_message.specs.declared.reply.Reply.{Reply}
-use Rattle.sw_message.specs.declared.reply.Reply.TheVariants.{Fragment, Spoiled}
-use Rattle.sw_message.specs.declared.spoil.Spoil.{Spoil}
+use Rattle.sw_message.specs.declared.reply.Reply.TheVariants.{Fragment}
 use Rattle.sw_message.specs.declared.message.Msg.TheVariants as message
 use Rattle.sw_objsrv.specs.Handling.{Follows, IsAnswer, StopsReading, StopsAt}
 use Rattle.sw_objsrv.specs.Reading.{IsReplied}
@@ -48,13 +47,10 @@ module _ (cluster : ClusterModel) (place : PlaceModel) (stamp index : ℕ) where
     there_is : HasEntryAt names stamp index entry.durable
     there_is = entry_at names entry stamp index (at, of, has)
 
-    abbrev reads : List ℕ → FileName → List Call
-    reads folder read = ReadFile folder (file_name_text read) ∷ []
-
     module _ {D : Type 0} (seen : D → Seen) (left_since : D → Past) (a b c : D) (directory : IfTold (seen a).told (λ s. IsDirectoryOf (s.folder (folder_of place)) names))
         (looked : RunsUnlessMemory seen left_since (ListNames (folder_of place) ∷ []) None a b) (folder : List ℕ) (spelled : folder ≡ folder_of place) (bytes : List ℕ)
         (there : IfTold (seen b).told (λ s. HasBytes s folder (file_name_text (Data entry.stamp entry.index entry.durable)) bytes))
-        (read : Runs seen left_since (reads folder (Data entry.stamp entry.index entry.durable)) None b c) where
+        (read : Runs seen left_since (read_calls folder (Data entry.stamp entry.index entry.durable)) None b c) where
       look : Runs seen left_since (ListNames (folder_of place) ∷ []) None a b
       look = look_done seen left_since (folder_of place) a b looked
 
@@ -72,22 +68,22 @@ module _ (cluster : ClusterModel) (place : PlaceModel) (stamp index : ℕ) where
           (λ s has. record { content = has.0; there = has.1; bytes_are = has.2 }))
 
       -- the row of the table
-      row : (reply : Reply) → IsReplied cluster place stamp index bytes reply → HandlesFetch cluster place stamp index found (answers_after (folder_of place) (reads (folder_of place) name) [] reply)
+      row : (reply : Reply) → IsReplied cluster place stamp index bytes reply → HandlesFetch cluster place stamp index found (answers_after (folder_of place) (read_calls (folder_of place) name) [] reply)
       row reply (inl asked) =
-          inr (entry.durable, there_is, inl (subst (IsArchiveOf cluster place stamp index) (sym bytes_found) asked.0, ap (answers_after (folder_of place) (reads (folder_of place) name) []) (asked.1 ∙ ap (λ bs. Fragment bs) (sym bytes_found))))
+          FetchRead entry.durable there_is (subst (IsArchiveOf cluster place stamp index) (sym bytes_found) asked.0) (ap (answers_after (folder_of place) (read_calls (folder_of place) name) []) (asked.1 ∙ ap (λ bs. Fragment bs) (sym bytes_found)))
       row reply (inr spoiled) =
-          inr (entry.durable, there_is, inr (spoiled.0, subst (λ bs. IsSpoil cluster place stamp index bs spoiled.0) (sym bytes_found) spoiled.1, ap (answers_after (folder_of place) (reads (folder_of place) name) []) spoiled.2))
+          FetchSpoiled entry.durable there_is spoiled.0 (subst (λ bs. IsSpoil cluster place stamp index bs spoiled.0) (sym bytes_found) spoiled.1) (ap (answers_after (folder_of place) (read_calls (folder_of place) name) []) spoiled.2)
 
-      runs : Runs seen left_since (ListNames (folder_of place) ∷ reads (folder_of place) name) None a c
-      runs = runs_more seen left_since (ListNames (folder_of place) ∷ []) (reads (folder_of place) name) None a b c look
-          (subst (λ (n : FileName). Runs seen left_since (reads (folder_of place) n) None b c) named
-          (subst (λ (f : List ℕ). Runs seen left_since (reads f (Data entry.stamp entry.index entry.durable)) None b c) spelled read))
+      runs : Runs seen left_since (ListNames (folder_of place) ∷ read_calls (folder_of place) name) None a c
+      runs = runs_more seen left_since (ListNames (folder_of place) ∷ []) (read_calls (folder_of place) name) None a b c look
+          (subst (λ (n : FileName). Runs seen left_since (read_calls (folder_of place) n) None b c) named
+          (subst (λ (f : List ℕ). Runs seen left_since (read_calls f (Data entry.stamp entry.index entry.durable)) None b c) spelled read))
 
       pub fetched : (reply : Reply) → IsReplied cluster place stamp index bytes reply → Follows seen left_since (folder_of place) (HandlesFetch cluster place stamp index) (Ok reply) a c
       fetched reply replied = record {
         found = found;
         is_found = is_found (seen a).told (folder_of place) names bytes 0 directory;
-        handling = answers_after (folder_of place) (reads (folder_of place) name) [] reply;
+        handling = answers_after (folder_of place) (read_calls (folder_of place) name) [] reply;
         row = row reply replied;
         runs = (is_answer bytes reply replied, refl, runs);
       }
@@ -95,18 +91,18 @@ module _ (cluster : ClusterModel) (place : PlaceModel) (stamp index : ℕ) where
     -- reading it was stopped
     module _ {D : Type 0} (seen : D → Seen) (left_since : D → Past) (a b c : D) (directory : IfTold (seen a).told (λ s. IsDirectoryOf (s.folder (folder_of place)) names))
         (looked : RunsUnlessMemory seen left_since (ListNames (folder_of place) ∷ []) None a b) (folder : List ℕ) (spelled : folder ≡ folder_of place) where
-      read_runs : (refusal : Option DiskRefusal) → Runs seen left_since (reads folder (Data entry.stamp entry.index entry.durable)) refusal b c → Runs seen left_since (ListNames (folder_of place) ∷ reads (folder_of place) name) refusal a c
+      read_runs : (refusal : Option DiskRefusal) → Runs seen left_since (read_calls folder (Data entry.stamp entry.index entry.durable)) refusal b c → Runs seen left_since (ListNames (folder_of place) ∷ read_calls (folder_of place) name) refusal a c
       read_runs refusal read =
-          runs_more seen left_since (ListNames (folder_of place) ∷ []) (reads (folder_of place) name) refusal a b c (look_done seen left_since (folder_of place) a b looked)
-          (subst (λ (n : FileName). Runs seen left_since (reads (folder_of place) n) refusal b c) named
-          (subst (λ (f : List ℕ). Runs seen left_since (reads f (Data entry.stamp entry.index entry.durable)) refusal b c) spelled read))
+          runs_more seen left_since (ListNames (folder_of place) ∷ []) (read_calls (folder_of place) name) refusal a b c (look_done seen left_since (folder_of place) a b looked)
+          (subst (λ (n : FileName). Runs seen left_since (read_calls (folder_of place) n) refusal b c) named
+          (subst (λ (f : List ℕ). Runs seen left_since (read_calls f (Data entry.stamp entry.index entry.durable)) refusal b c) spelled read))
 
-      pub stops_read : (reason : DiskRefusal) → IsNotFull reason → Runs seen left_since (reads folder (Data entry.stamp entry.index entry.durable)) (Some reason) b c → StopsReading seen left_since (message.Fetch place stamp index) (Err reason) a c
+      pub stops_read : (reason : DiskRefusal) → IsNotFull reason → Runs seen left_since (read_calls folder (Data entry.stamp entry.index entry.durable)) (Some reason) b c → StopsReading seen left_since (message.Fetch place stamp index) (Err reason) a c
       stops_read Failed other read = (names, directory, entry.durable, there_is, read_runs (Some Failed) read)
       stops_read (Full need free) other read = absurd other
       stops_read NoMemory other read = (names, directory, entry.durable, there_is, inl (read_runs (Some NoMemory) read))
 
--- ---- reads that were stopped
+-- ---- read_calls that were stopped
 
 module _ {D : Type 0} (seen : D → Seen) (left_since : D → Past) (a b : D) where
   -- they gave no answer

@@ -15,7 +15,7 @@ use Rattle.sw_diskfile.proofs.Steps.{changes_by, changes_of, temporary_by}
 use Rattle.sw_diskfile.proofs.Synced.{AreSyncedChanges}
 use Rattle.sw_ring.specs.Cluster.{ClusterModel}
 use Rattle.sw_message.specs.Message.{is_primary, place_in}
-use Rattle.sw_message.specs.Table.{Found, Handling, HandlesCommit, HandlesDelete, HandlesFetch, HandlesPutFrag, HandlesRemove, IsHandled, answers_after, durable_text, plain_text, tombstone_text}
+use Rattle.sw_message.specs.Table.{AskListed, CommitMissing, CommitRenamed, CommitSuperseded, CommitThere, DeleteSuperseded, DeleteThere, DeleteWritten, FetchGone, FetchRead, FetchSpoiled, Found, HandlesAsk, HandlesCommit, HandlesDelete, HandlesFetch, HandlesPutFrag, HandlesRemove, Handling, IsHandled, PutFragFull, PutFragSpoiled, PutFragStored, PutFragSuperseded, PutFragThere, RemoveDropped, RemoveKept, RemoveMissing, answers_after, durable_text, plain_text, tombstone_text}
 use Rattle.sw_message.specs.declared.message.Msg.{Msg}
 use Rattle.sw_message.specs.declared.message.Msg.TheVariants as message
 use Rattle.sw_message.specs.declared.reply.Reply.{Reply}
@@ -180,76 +180,47 @@ module _ (place : PlaceModel) (found : Found) (handling : Handling) where
   folder = folder_of place
 
   put_row : (cluster : ClusterModel) (stamp index : ℕ) (bytes : List ℕ) → HandlesPutFrag cluster place stamp index bytes found handling → IsRow folder handling
-  put_row cluster stamp index bytes row = ⊎_elim
-      (λ spoilt. looked folder handling (Spoiled spoilt.0) tt spoilt.2)
-      (λ sound. ⊎_elim
-      (λ covered. looked folder handling (Superseded covered.0) tt covered.2)
-      (λ free. ⊎_elim
-      (λ there. looked folder handling Synced tt there.2)
-      (λ lacking. ⊎_elim
-      (λ full. no_room folder handling (plain_text stamp index) bytes found.room full.0 full.1)
-      (λ fits. after_look folder handling (store_calls folder (plain_text stamp index) bytes) (new_file (plain_text stamp index) bytes ∷ []) Synced tt (λ unchanging. absurd unchanging) (does_store folder (plain_text stamp index) bytes) fits.1)
-      lacking.1)
-      free.1)
-      sound.1)
-      row
+  put_row cluster stamp index bytes (PutFragSpoiled spoil spoils is) = looked folder handling (Spoiled spoil) tt is
+  put_row cluster stamp index bytes (PutFragSuperseded archive floor covered is) = looked folder handling (Superseded floor) tt is
+  put_row cluster stamp index bytes (PutFragThere archive free durable has is) = looked folder handling Synced tt is
+  put_row cluster stamp index bytes (PutFragFull archive free lacks less is) = no_room folder handling (plain_text stamp index) bytes found.room less is
+  put_row cluster stamp index bytes (PutFragStored archive free lacks fits is) =
+      after_look folder handling (store_calls folder (plain_text stamp index) bytes) (new_file (plain_text stamp index) bytes ∷ []) Synced tt (λ unchanging. absurd unchanging) (does_store folder (plain_text stamp index) bytes) is
 
   commit_row : (primary : Bool) (stamp index : ℕ) → HandlesCommit primary place stamp index found handling → IsRow folder handling
-  commit_row primary stamp index row = ⊎_elim
-      (λ durable. looked folder handling Committed tt durable.1)
-      (λ other. ⊎_elim
-      (λ plain. purges plain.1 plain.3)
-      (λ lacking. ⊎_elim
-      (λ covered. looked folder handling (Superseded covered.0) tt covered.2)
-      (λ free. looked folder handling Missing tt free.1)
-      lacking.1)
-      other)
-      row
-    where
-      purges : (obsolete : List (List ℕ)) → handling ≡ answers_after folder (commit_calls folder (plain_text stamp index) (durable_text stamp index) ++ purge_calls folder obsolete) (Rename (plain_text stamp index) (durable_text stamp index) ∷ map Remove obsolete) Committed → IsRow folder handling
-      purges obsolete is =
-          let calls = commit_calls folder (plain_text stamp index) (durable_text stamp index) in
-          let change = Rename (plain_text stamp index) (durable_text stamp index) in
-          after_look folder handling (calls ++ purge_calls folder obsolete) (change ∷ map Remove obsolete) Committed tt (λ unchanging. absurd unchanging)
-          (does_purge folder calls (change ∷ []) (does_commit folder (plain_text stamp index) (durable_text stamp index)) obsolete) is
+  commit_row primary stamp index (CommitThere has is) = looked folder handling Committed tt is
+  commit_row primary stamp index (CommitRenamed plain obsolete purged is) =
+      let calls = commit_calls folder (plain_text stamp index) (durable_text stamp index) in
+      let change = Rename (plain_text stamp index) (durable_text stamp index) in
+      after_look folder handling (calls ++ purge_calls folder obsolete) (change ∷ map Remove obsolete) Committed tt (λ unchanging. absurd unchanging)
+      (does_purge folder calls (change ∷ []) (does_commit folder (plain_text stamp index) (durable_text stamp index)) obsolete) is
+  commit_row primary stamp index (CommitSuperseded lacks floor covered is) = looked folder handling (Superseded floor) tt is
+  commit_row primary stamp index (CommitMissing lacks free is) = looked folder handling Missing tt is
 
   delete_row : (primary : Bool) (stamp : ℕ) → HandlesDelete primary place stamp found handling → IsRow folder handling
-  delete_row primary stamp row = ⊎_elim
-      (λ refused. looked folder handling (Superseded refused.0) tt refused.2)
-      (λ allowed. ⊎_elim
-      (λ there. looked folder handling (Deleted allowed.1) tt there.1)
-      (λ new. buries allowed.1 new.1 new.3)
-      allowed.3)
-      row
-    where
-      buries : (existed : Bool) (obsolete : List (List ℕ)) → handling ≡ answers_after folder (store_calls folder (tombstone_text stamp) [] ++ purge_calls folder obsolete) (new_file (tombstone_text stamp) [] ∷ map Remove obsolete) (Deleted existed) → IsRow folder handling
-      buries existed obsolete is =
-          let calls = store_calls folder (tombstone_text stamp) [] in
-          let change = new_file (tombstone_text stamp) [] in
-          after_look folder handling (calls ++ purge_calls folder obsolete) (change ∷ map Remove obsolete) (Deleted existed) tt (λ unchanging. absurd unchanging)
-          (does_purge folder calls (change ∷ []) (does_store folder (tombstone_text stamp) []) obsolete) is
+  delete_row primary stamp (DeleteSuperseded floor refuses is) = looked folder handling (Superseded floor) tt is
+  delete_row primary stamp (DeleteThere allows existed tells has is) = looked folder handling (Deleted existed) tt is
+  delete_row primary stamp (DeleteWritten allows existed tells lacks obsolete purged is) =
+      let calls = store_calls folder (tombstone_text stamp) [] in
+      let change = new_file (tombstone_text stamp) [] in
+      after_look folder handling (calls ++ purge_calls folder obsolete) (change ∷ map Remove obsolete) (Deleted existed) tt (λ unchanging. absurd unchanging)
+      (does_purge folder calls (change ∷ []) (does_store folder (tombstone_text stamp) []) obsolete) is
+
+  ask_row : HandlesAsk place found handling → IsRow folder handling
+  ask_row (AskListed listing lists is) = looked folder handling (Held listing) tt is
 
   fetch_row : (cluster : ClusterModel) (stamp index : ℕ) → HandlesFetch cluster place stamp index found handling → IsRow folder handling
-  fetch_row cluster stamp index row = ⊎_elim
-      (λ lacking. looked folder handling (Gone lacking.1) tt lacking.3)
-      (λ there.
-      let name = Data stamp index there.0 in
-      ⊎_elim
-      (λ sound. read folder handling (file_name_text name) (Fragment (found.bytes name)) tt sound.1)
-      (λ spoilt. read folder handling (file_name_text name) (Spoiled spoilt.0) tt spoilt.2)
-      there.2)
-      row
+  fetch_row cluster stamp index (FetchGone lacks listing lists is) = looked folder handling (Gone listing) tt is
+  fetch_row cluster stamp index (FetchRead durable has archive is) =
+      read folder handling (file_name_text (Data stamp index durable)) (Fragment (found.bytes (Data stamp index durable))) tt is
+  fetch_row cluster stamp index (FetchSpoiled durable has spoil spoils is) = read folder handling (file_name_text (Data stamp index durable)) (Spoiled spoil) tt is
 
   remove_row : (primary : Bool) (stamp index : ℕ) → HandlesRemove primary place stamp index found handling → IsRow folder handling
-  remove_row primary stamp index row = ⊎_elim
-      (λ kept. looked folder handling Kept tt kept.1)
-      (λ handoff. ⊎_elim
-      (λ lacking. looked folder handling Missing tt lacking.1)
-      (λ there.
-      let text = file_name_text (Data stamp index there.0) in
-      after_look folder handling (drop_calls folder text) (Remove text ∷ []) Removed tt (λ unchanging. absurd unchanging) (does_drop folder text) there.2)
-      handoff.1)
-      row
+  remove_row primary stamp index (RemoveKept own is) = looked folder handling Kept tt is
+  remove_row primary stamp index (RemoveMissing handoff lacks is) = looked folder handling Missing tt is
+  remove_row primary stamp index (RemoveDropped handoff durable has is) =
+      let text = file_name_text (Data stamp index durable) in
+      after_look folder handling (drop_calls folder text) (Remove text ∷ []) Removed tt (λ unchanging. absurd unchanging) (does_drop folder text) is
 
 -- ---- the table
 
@@ -258,7 +229,7 @@ pub row_of : (cluster : ClusterModel) (device : ℕ) (found : Found) (message : 
 row_of cluster device found (message.PutFrag here stamp index bytes) handling row place is = moved handling here place (cc) (put_row here found handling cluster stamp index bytes row)
 row_of cluster device found (message.Commit here stamp index) handling row place is = moved handling here place (cc) (commit_row here found handling (is_primary cluster device here) stamp index row)
 row_of cluster device found (message.Delete here stamp) handling row place is = moved handling here place (cc) (delete_row here found handling (is_primary cluster device here) stamp row)
-row_of cluster device found (message.Ask here) handling row place is = moved handling here place (cc) (looked (folder_of here) handling (Held row.0) tt row.2)
+row_of cluster device found (message.Ask here) handling row place is = moved handling here place (cc) (ask_row here found handling row)
 row_of cluster device found (message.Fetch here stamp index) handling row place is = moved handling here place (cc) (fetch_row here found handling cluster stamp index row)
 row_of cluster device found (message.Remove here stamp index) handling row place is = moved handling here place (cc) (remove_row here found handling (is_primary cluster device here) stamp index row)
 row_of cluster device found message.Parts handling row place is = absurd row

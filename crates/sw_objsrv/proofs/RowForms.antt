@@ -2,7 +2,7 @@
 use Rattle.std.proofs.Common.{◌≡◌, ◌⊎◌, inl, inr, ⊎_elim, ℕ, ◌≤◌, Bool, true, false, true≢false, Contains, List, [], ◌∷◌, ◌++◌, length, map, Option, None, Some, refl, sym, ap, subst, ◌∙◌, arith}
 use Rattle.sw_types.specs.Stamp.{greatest_stamp}
 use Rattle.sw_disk.specs.Answers.{names_of}
-use Rattle.sw_disk.specs.Calls.{Call, ReadFile}
+use Rattle.sw_disk.specs.Calls.{Call}
 use Rattle.sw_disk.specs.Folder.{Change, File, Folder, Remove, Rename, all_changed, changed, files_of}
 use Rattle.sw_hashpath.specs.FileName.{IsFileName, file_name_text}
 use Rattle.sw_hashpath.specs.Place.{PlaceModel, folder_of}
@@ -25,7 +25,7 @@ use Rattle.sw_archive.proofs.Archives.{code_bounds}
 use Rattle.sw_message.specs.Message.{is_primary, place_in}
 use Rattle.sw_message.specs.Spoil.{IsArchiveOf}
 use Rattle.sw_message.specs.Step.{IsFound}
-use Rattle.sw_message.specs.Table.{Allows, ArePurged, Found, Handling, HandlesCommit, HandlesDelete, HandlesFetch, HandlesPutFrag, HandlesRemove, IsHandled, IsUncovered, LacksEntry, answers_after, durable_text, plain_text, tombstone_text}
+use Rattle.sw_message.specs.Table.{Allows, ArePurged, AskListed, CommitMissing, CommitRenamed, CommitSuperseded, CommitThere, DeleteSuperseded, DeleteThere, DeleteWritten, FetchGone, FetchRead, FetchSpoiled, Found, HandlesAsk, HandlesCommit, HandlesDelete, HandlesFetch, HandlesPutFrag, HandlesRemove, Handling, IsHandled, IsUncovered, LacksEntry, PutFragFull, PutFragSpoiled, PutFragStored, PutFragSuperseded, PutFragThere, RemoveDropped, RemoveKept, RemoveMissing, answers_after, durable_text, plain_text, read_calls, tombstone_text}
 use Rattle.sw_message.specs.declared.message.Msg.{Msg}
 use Rattle.sw_message.specs.declared.message.Msg.TheVariants as message
 use Rattle.sw_message.specs.declared.reply.Reply.{Reply}
@@ -171,71 +171,46 @@ module _ (place : PlaceModel) (primary : Bool) (files : List File) (found : Foun
   purges calls change obsolete reply are stays is = inr (change, obsolete, ap (λ (h : Handling). h.changes) is, are, stays)
 
   put_purges : (cluster : ClusterModel) (stamp index : ℕ) (bytes : List ℕ) → HandlesPutFrag cluster place stamp index bytes found handling → ArePurging primary files handling.changes
-  put_purges cluster stamp index bytes row = ⊎_elim
-      (λ spoilt. changes_none [] (Spoiled spoilt.0) spoilt.2)
-      (λ sound. ⊎_elim
-      (λ covered. changes_none [] (Superseded covered.0) covered.2)
-      (λ free. ⊎_elim
-      (λ there. changes_none [] Synced there.2)
-      (λ lacking. ⊎_elim
-      (λ full. changes_none (store_calls folder (plain_text stamp index) bytes) (NoSpace (length bytes) found.room) full.1)
-      (λ fits.
+  put_purges cluster stamp index bytes (PutFragSpoiled spoil spoils is) = changes_none [] (Spoiled spoil) is
+  put_purges cluster stamp index bytes (PutFragSuperseded archive floor covered is) = changes_none [] (Superseded floor) is
+  put_purges cluster stamp index bytes (PutFragThere archive free durable has is) = changes_none [] Synced is
+  put_purges cluster stamp index bytes (PutFragFull archive free lacks less is) = changes_none (store_calls folder (plain_text stamp index) bytes) (NoSpace (length bytes) found.room) is
+  put_purges cluster stamp index bytes (PutFragStored archive free lacks fits is) =
       purges (store_calls folder (plain_text stamp index) bytes) (new_file (plain_text stamp index) bytes) [] Synced
-      (stored primary files found.names directory stamp index bytes (archive_name cluster place stamp index bytes sound.0) lacking.0 free.0 none)
-      (none_gone files (new_file (plain_text stamp index) bytes)) fits.1)
-      lacking.1)
-      free.1)
-      sound.1)
-      row
+      (stored primary files found.names directory stamp index bytes (archive_name cluster place stamp index bytes archive) lacks free none)
+      (none_gone files (new_file (plain_text stamp index) bytes)) is
 
   commit_purges : (stamp index : ℕ) → HandlesCommit primary place stamp index found handling → ArePurging primary files handling.changes
-  commit_purges stamp index row = ⊎_elim
-      (λ durable. changes_none [] Committed durable.1)
-      (λ other. ⊎_elim
-      (λ plain.
-      purges (commit_calls folder (plain_text stamp index) (durable_text stamp index) ++ purge_calls folder plain.1) (Rename (plain_text stamp index) (durable_text stamp index)) plain.1 Committed
-      (committed primary files found.names directory stamp index plain.1 plain.0.0 plain.2) (durable_is_left primary files found.names directory stamp index plain.1 plain.0.0 plain.2 none) plain.3)
-      (λ lacking. ⊎_elim
-      (λ covered. changes_none [] (Superseded covered.0) covered.2)
-      (λ free. changes_none [] Missing free.1)
-      lacking.1)
-      other)
-      row
+  commit_purges stamp index (CommitThere has is) = changes_none [] Committed is
+  commit_purges stamp index (CommitRenamed plain obsolete purged is) =
+      purges (commit_calls folder (plain_text stamp index) (durable_text stamp index) ++ purge_calls folder obsolete) (Rename (plain_text stamp index) (durable_text stamp index)) obsolete Committed
+      (committed primary files found.names directory stamp index obsolete plain.0 purged) (durable_is_left primary files found.names directory stamp index obsolete plain.0 purged none) is
+  commit_purges stamp index (CommitSuperseded lacks floor covered is) = changes_none [] (Superseded floor) is
+  commit_purges stamp index (CommitMissing lacks free is) = changes_none [] Missing is
 
   delete_purges : (stamp : ℕ) → stamp ≤ greatest_stamp → HandlesDelete primary place stamp found handling → ArePurging primary files handling.changes
-  delete_purges stamp is_stamp row = ⊎_elim
-      (λ refused. changes_none [] (Superseded refused.0) refused.2)
-      (λ allowed. ⊎_elim
-      (λ there. changes_none [] (Deleted allowed.1) there.1)
-      (λ new.
-      purges (store_calls folder (tombstone_text stamp) [] ++ purge_calls folder new.1) (new_file (tombstone_text stamp) []) new.1 (Deleted allowed.1)
-      (buried primary files found.names directory stamp new.1 is_stamp new.2) (tombstone_is_left primary files found.names directory stamp new.1 is_stamp new.2 allowed.0) new.3)
-      allowed.3)
-      row
+  delete_purges stamp is_stamp (DeleteSuperseded floor refuses is) = changes_none [] (Superseded floor) is
+  delete_purges stamp is_stamp (DeleteThere allows existed tells has is) = changes_none [] (Deleted existed) is
+  delete_purges stamp is_stamp (DeleteWritten allows existed tells lacks obsolete purged is) =
+      purges (store_calls folder (tombstone_text stamp) [] ++ purge_calls folder obsolete) (new_file (tombstone_text stamp) []) obsolete (Deleted existed)
+      (buried primary files found.names directory stamp obsolete is_stamp purged) (tombstone_is_left primary files found.names directory stamp obsolete is_stamp purged allows) is
+
+  ask_purges : HandlesAsk place found handling → ArePurging primary files handling.changes
+  ask_purges (AskListed listing lists is) = changes_none [] (Held listing) is
 
   fetch_purges : (cluster : ClusterModel) (stamp index : ℕ) → HandlesFetch cluster place stamp index found handling → ArePurging primary files handling.changes
-  fetch_purges cluster stamp index row = ⊎_elim
-      (λ lacking. changes_none [] (Gone lacking.1) lacking.3)
-      (λ there.
-      let name = Data stamp index there.0 in
-      let calls = ReadFile folder (file_name_text name) ∷ [] in
-      ⊎_elim
-      (λ sound. changes_none calls (Fragment (found.bytes name)) sound.1)
-      (λ spoilt. changes_none calls (Spoiled spoilt.0) spoilt.2)
-      there.2)
-      row
+  fetch_purges cluster stamp index (FetchGone lacks listing lists is) = changes_none [] (Gone listing) is
+  fetch_purges cluster stamp index (FetchRead durable has archive is) =
+      changes_none (read_calls folder (Data stamp index durable)) (Fragment (found.bytes (Data stamp index durable))) is
+  fetch_purges cluster stamp index (FetchSpoiled durable has spoil spoils is) = changes_none (read_calls folder (Data stamp index durable)) (Spoiled spoil) is
 
   remove_purges : (stamp index : ℕ) → HandlesRemove primary place stamp index found handling → ArePurging primary files handling.changes
-  remove_purges stamp index row = ⊎_elim
-      (λ kept. changes_none [] Kept kept.1)
-      (λ handoff. ⊎_elim
-      (λ lacking. changes_none [] Missing lacking.1)
-      (λ there.
-      let name = Data stamp index there.0 in
+  remove_purges stamp index (RemoveKept own is) = changes_none [] Kept is
+  remove_purges stamp index (RemoveMissing handoff lacks is) = changes_none [] Missing is
+  remove_purges stamp index (RemoveDropped handoff durable has is) =
+      let name = Data stamp index durable in
       purges (drop_calls folder (file_name_text name)) (Remove (file_name_text name)) [] Removed
-      (removed primary files found.names directory name (entry_there found.names stamp index there.0 there.1) handoff.0 none) (none_gone files (Remove (file_name_text name))) there.2)
-      handoff.1)
-      row
+      (removed primary files found.names directory name (entry_there found.names stamp index durable has) handoff none) (none_gone files (Remove (file_name_text name))) is
 
 -- ---- the table
 
@@ -252,7 +227,7 @@ module _ (cluster : ClusterModel) (device : ℕ) (files : List File) (found : Fo
   row_purges (message.PutFrag here stamp index bytes) stamped row place is = moved here place (cc) (λ none. put_purges here (at here) files found handling directory none cluster stamp index bytes row)
   row_purges (message.Commit here stamp index) stamped row place is = moved here place (cc) (λ none. commit_purges here (at here) files found handling directory none stamp index row)
   row_purges (message.Delete here stamp) stamped row place is = moved here place (cc) (λ none. delete_purges here (at here) files found handling directory none stamp stamped row)
-  row_purges (message.Ask here) stamped row place is = moved here place (cc) (λ none. changes_none here (at here) files found handling directory none [] (Held row.0) row.2)
+  row_purges (message.Ask here) stamped row place is = moved here place (cc) (λ none. ask_purges here (at here) files found handling directory none row)
   row_purges (message.Fetch here stamp index) stamped row place is = moved here place (cc) (λ none. fetch_purges here (at here) files found handling directory none cluster stamp index row)
   row_purges (message.Remove here stamp index) stamped row place is = moved here place (cc) (λ none. remove_purges here (at here) files found handling directory none stamp index row)
   row_purges message.Parts stamped row place is = absurd row

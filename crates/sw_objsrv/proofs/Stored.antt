@@ -20,7 +20,7 @@ use Rattle.sw_diskfile.proofs.Obsoletes.{floor_same, obsolete_same, one_director
 use Rattle.sw_diskfile.proofs.Tidied.{look_done}
 use Rattle.sw_ring.specs.Cluster.{ClusterModel}
 use Rattle.sw_message.specs.Spoil.{IsArchiveOf}
-use Rattle.sw_message.specs.Table.{Found, Handling, HandlesPutFrag, IsUncovered, LacksEntry, answers_after, plain_text}
+use Rattle.sw_message.specs.Table.{Found, HandlesPutFrag, Handling, IsUncovered, LacksEntry, PutFragFull, PutFragStored, answers_after, plain_text}
 use Rattle.sw_message.specs.declared.reply.Reply.TheVariants.{NoSpace, Synced}
 use Rattle.sw_objsrv.specs.Folder.{IsInOrder, StaysInOrder}
 use Rattle.sw_objsrv.specs.Handling.{Follows, Handles}
@@ -87,10 +87,10 @@ module _ (stamp index : ℕ) (names : List FileName) (uncovered : IsUncovered na
       room_is P room else told = room_at P (seen a).told room else (room_before seen left_since (folder_of place) a b look P within told)
 
       done_row : (room : ℕ) → length bytes ≤ (found room).room → Row (found room) done
-      done_row room enough = inr (asked, inr (uncovered, inr (lacks, inr (enough, refl))))
+      done_row room enough = PutFragStored asked uncovered lacks enough refl
 
       full_row : (room : ℕ) → (found room).room < length bytes → Row (found room) (full (found room).room)
-      full_row room less = inr (asked, inr (uncovered, inr (lacks, inl (less, refl))))
+      full_row room less = PutFragFull asked uncovered lacks less refl
 
       pub stored : IfTold (seen b).told (λ s. length bytes ≤ free_of s) → Runs seen left_since stores None b c → Follows seen left_since (folder_of place) Row (Ok Synced) a c
       stored fits run = record {

@@ -7,7 +7,7 @@ use Rattle.sw_diskfile.proofs.Lists.{Contains-map, Contains-none, mapped}
 use Rattle.sw_ring.specs.Cluster.{ClusterModel, ids_of}
 use Rattle.sw_ring.specs.Ring.{is_among}
 use Rattle.sw_message.specs.Step.{Folders}
-use Rattle.sw_message.specs.Table.{Handling}
+use Rattle.sw_message.specs.Table.{AskListed, Handling}
 use Rattle.sw_message.specs.Transcript.{Closed, Step, given}
 use Rattle.sw_message.specs.declared.message.Msg.{Msg}
 use Rattle.sw_message.specs.declared.message.Msg.TheVariants as message
@@ -39,9 +39,9 @@ Answers other answer = ⊤
 
 -- as each device answers
 answers_so : (cluster : ClusterModel) (device : ℕ) (msg : Msg) (answer : Reply) (before after : Folders) → IsDeviceStep cluster device msg answer before after → Answers msg answer
-answers_so cluster device (message.Ask place) answer before after is =
-    let row = is.step.handled in
-    subst IsHeld (sym (is.step.replied ∙ ap (λ (one : Handling). one.reply) row.2)) tt
+answers_so cluster device (message.Ask place) answer before after is = elim is.step.handled [
+  | AskListed listing lists same ↦ subst IsHeld (sym (is.step.replied ∙ ap (λ (one : Handling). one.reply) same)) tt
+]
 answers_so cluster device (message.PutFrag place stamp index bytes) answer before after is = tt
 answers_so cluster device (message.Commit place stamp index) answer before after is = tt
 answers_so cluster device (message.Delete place stamp) answer before after is = tt

@@ -19,7 +19,7 @@ use Rattle.sw_memdisk.specs.Memory.{LeftBy, MemDiskModel, crashed, seen_of, stat
 use Rattle.sw_ring.specs.Cluster.{ClusterModel}
 use Rattle.sw_message.specs.Message.{IsPlaceOf, is_primary, place_in}
 use Rattle.sw_message.specs.Step.{Folders}
-use Rattle.sw_message.specs.Table.{Found, Handling, HandlesFetch, IsHandled}
+use Rattle.sw_message.specs.Table.{AskListed, FetchGone, FetchRead, FetchSpoiled, Found, HandlesAsk, HandlesFetch, Handling, IsHandled}
 use Rattle.sw_message.specs.declared.message.Msg.{Msg}
 use Rattle.sw_message.specs.declared.message.Msg.TheVariants as message
 use Rattle.sw_message.specs.declared.reply.Reply.{Reply}
@@ -191,17 +191,19 @@ module _ (cluster : ClusterModel) (calls pick : ℕ) (node between : MemNode) wh
   -- ---- the message
 
   fetch_reads : (place : PlaceModel) (stamp index : ℕ) (found : Found) (handling : Handling) → HandlesFetch cluster place stamp index found handling → (name : List ℕ) (temporary : Option Content) → changes_by name handling.calls temporary ≡ []
-  fetch_reads place stamp index found handling row name temporary = ⊎_elim
-      (λ lacks. ap (λ (h : Handling). changes_by name h.calls temporary) lacks.3)
-      (λ has. ⊎_elim (λ sound. ap (λ (h : Handling). changes_by name h.calls temporary) sound.1) (λ spoilt. ap (λ (h : Handling). changes_by name h.calls temporary) spoilt.2) has.2)
-      row
+  fetch_reads place stamp index found handling (FetchGone lacks listing lists is) name temporary = ap (λ (h : Handling). changes_by name h.calls temporary) is
+  fetch_reads place stamp index found handling (FetchRead durable has archive is) name temporary = ap (λ (h : Handling). changes_by name h.calls temporary) is
+  fetch_reads place stamp index found handling (FetchSpoiled durable has spoil spoils is) name temporary = ap (λ (h : Handling). changes_by name h.calls temporary) is
+
+  ask_reads : (place : PlaceModel) (found : Found) (handling : Handling) → HandlesAsk place found handling → (name : List ℕ) (temporary : Option Content) → changes_by name handling.calls temporary ≡ []
+  ask_reads place found handling (AskListed listing lists is) name temporary = ap (λ (h : Handling). changes_by name h.calls temporary) is
 
   pub is_cut : (msg : Msg) → IsCutNode cluster msg calls node between → IsCut cluster node.device msg calls pick before after
   is_cut (message.PutFrag place stamp index bytes) is = changing (message.PutFrag place stamp index bytes) is place refl (λ result none. none)
   is_cut (message.Commit place stamp index) is = changing (message.Commit place stamp index) is place refl (λ result none. none)
   is_cut (message.Delete place stamp) is = changing (message.Delete place stamp) is place refl (λ result none. none)
   is_cut (message.Remove place stamp index) is = changing (message.Remove place stamp index) is place refl (λ result none. none)
-  is_cut (message.Ask place) is = unchanged (message.Ask place) is place refl (λ found handling row name temporary. ap (λ (h : Handling). changes_by name h.calls temporary) row.2)
+  is_cut (message.Ask place) is = unchanged (message.Ask place) is place refl (λ found handling row. ask_reads place found handling row)
   is_cut (message.Fetch place stamp index) is = unchanged (message.Fetch place stamp index) is place refl (λ found handling row. fetch_reads place stamp index found handling row)
   is_cut message.Parts is = surveyed message.Parts is refl
   is_cut (message.Suffixes part) is = surveyed (message.Suffixes part) is refl

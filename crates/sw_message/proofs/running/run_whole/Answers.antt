@@ -1,5 +1,5 @@
 -- A run from the beginning has the steps of that run alone.
-use Rattle.std.proofs.Common.{◌≡◌, [], List, Option, append-nil, refl, subst}
+use Rattle.std.proofs.Common.{[], List, Option, append-nil, refl, subst}
 use Rattle.std.specs.Prelude.{OnOk}
 use Rattle.sw_ring.specs.Cluster.{ClusterModel}
 use Rattle.sw_message.specs.Learnt.{Learnt, Own}

@@ -1,9 +1,9 @@
-use Rattle.std.proofs.Common.{ℕ, inl, inr, List, None, Some, Ok, Err, refl, sym, subst, true≢false, ◌∙◌}
+use Rattle.std.proofs.Common.{ℕ, List, None, Some, Ok, Err, refl, sym, subst, true≢false, ◌∙◌}
 use Rattle.std.proofs.lemmas.Result.{err_from_is_err_and}
 use Rattle.sw_hashpath.specs.Place.{folder_of}
 use Rattle.sw_hashpath.specs.declared.file_name.FileName.TheVariants.{Tombstone}
 use Rattle.sw_suffix.specs.Table.{floor_at}
-use Rattle.sw_message.specs.Table.{HandlesDelete}
+use Rattle.sw_message.specs.Table.{DeleteSuperseded, DeleteThere, HandlesDelete}
 use Rattle.sw_message.specs.declared.reply.Reply.TheVariants.{Deleted, Superseded}
 use Rattle.sw_objsrv.specs.Changing.{MakesAndPurges}
 use Rattle.sw_objsrv.proofs.AfterLook.{delete_row, directory_looked, handles_after, handles_at_once, keeps_after, order_looked}
@@ -15,7 +15,7 @@ returns-in-Some-clause-handles g c =
     let dir = c.in_ok-looked.looked.dir in
     let Row = HandlesDelete c.args.is_primary place c.args.stamp in
     handles_at_once g.D.Disk.seen g.D.Disk.left_since (folder_of place) Row dir (Superseded c.in-Some.floor) c.args.disk.now c.look_at.new.disk c.in_ok-looked.ensures.runs c.in_ok-looked.ensures.directory
-    (tt, λ bytes room. inl (c.in-Some.floor, c.in-Some.ensures, refl))
+    (tt, λ bytes room. DeleteSuperseded c.in-Some.floor c.in-Some.ensures refl)
 
 pub returns-in-Some-clause-order : goal.returns-in-Some-clause-order
 returns-in-Some-clause-order g c =
@@ -30,7 +30,7 @@ returns-then-has_tombstone-clause-handles g c =
     let existed = c.has_durable_floor-existed in
     let Row = HandlesDelete c.args.is_primary place c.args.stamp in
     handles_at_once g.D.Disk.seen g.D.Disk.left_since (folder_of place) Row dir (Deleted existed.result) c.args.disk.now c.look_at.new.disk c.in_ok-looked.ensures.runs c.in_ok-looked.ensures.directory
-    (tt, λ bytes room. inr (c.in_default.ensures, existed.result, existed.ensures, inl (c.has_tombstone.ensures.0 c.if-has_tombstone.true, refl)))
+    (tt, λ bytes room. DeleteThere c.in_default.ensures existed.result existed.ensures (c.has_tombstone.ensures.0 c.if-has_tombstone.true) refl)
 
 pub returns-then-has_tombstone-clause-order : goal.returns-then-has_tombstone-clause-order
 returns-then-has_tombstone-clause-order g c =

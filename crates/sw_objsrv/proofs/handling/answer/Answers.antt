@@ -77,6 +77,9 @@ returns-in-Remove-clause-order g c =
 pub returns-in-Fetch-clause-answered : goal.returns-in-Fetch-clause-answered
 returns-in-Fetch-clause-answered g c = rw c.in-Fetch.is c.fetch.ensures.handles
 
+pub returns-in-Ask-clause-answered : goal.returns-in-Ask-clause-answered
+returns-in-Ask-clause-answered g c = rw c.in-Ask.is (inl c.ask.ensures.handles)
+
 -- ---- where nothing changes
 
 pub returns-in-Ask-clause-order : goal.returns-in-Ask-clause-order

@@ -2,7 +2,7 @@ use Rattle.std.proofs.Common.{inl, inr, refl, ◌∙◌}
 use Rattle.std.proofs.lemmas.Result.{err_from_is_err_and}
 use Rattle.sw_hashpath.specs.Place.{folder_of}
 use Rattle.sw_hashpath.specs.declared.file_name.FileName.TheVariants.{Data}
-use Rattle.sw_message.specs.Table.{HandlesFetch}
+use Rattle.sw_message.specs.Table.{FetchGone, HandlesFetch}
 use Rattle.sw_message.specs.declared.reply.Reply.TheVariants.{Gone}
 use Rattle.sw_objsrv.proofs.AfterLook.{directory_looked, handles_at_once, has_file, keeps_after}
 use Rattle.sw_objsrv.proofs.Fetched.{fetched, stops_read}
@@ -16,7 +16,7 @@ returns-in_default-clause-handles g c =
     let listing = c.in_ok-listing.field-0 in
     let Row = HandlesFetch c.args.cluster.now place c.args.stamp c.args.index in
     inl (handles_at_once g.D.Disk.seen g.D.Disk.left_since (folder_of place) Row dir (Gone listing) c.args.disk.now c.look_at.new.disk c.in_ok-looked.ensures.runs c.in_ok-looked.ensures.directory
-    (tt, λ bytes room. inl (c.in_default.ensures, listing, c.in_ok-listing.ensures, refl)))
+    (tt, λ bytes room. FetchGone c.in_default.ensures listing c.in_ok-listing.ensures refl))
 
 pub fetch-requires-clause-index : goal.fetch-requires-clause-index
 fetch-requires-clause-index g c =

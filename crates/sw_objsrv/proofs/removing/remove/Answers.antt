@@ -1,8 +1,8 @@
-use Rattle.std.proofs.Common.{ℕ, Bool, inl, inr, List, None, Some, Ok, Err, refl, sym, subst}
+use Rattle.std.proofs.Common.{ℕ, Bool, List, None, Some, Ok, Err, refl, sym, subst}
 use Rattle.std.proofs.lemmas.Result.{err_from_is_err_and}
 use Rattle.sw_hashpath.specs.Place.{folder_of}
 use Rattle.sw_suffix.specs.Table.{floor_at}
-use Rattle.sw_message.specs.Table.{HandlesRemove}
+use Rattle.sw_message.specs.Table.{HandlesRemove, RemoveKept, RemoveMissing}
 use Rattle.sw_message.specs.declared.reply.Reply.TheVariants.{Kept, Missing, Removed}
 use Rattle.sw_objsrv.specs.Changing.{Drops, LeavesOrder}
 use Rattle.sw_objsrv.specs.Folder.{StaysInOrder}
@@ -16,7 +16,7 @@ returns-then-is_primary-clause-handles g c =
     let dir = c.in_ok-looked.looked.dir in
     let Row = HandlesRemove c.args.is_primary place c.args.stamp c.args.index in
     handles_at_once g.D.Disk.seen g.D.Disk.left_since (folder_of place) Row dir Kept c.args.disk.now c.look_at.new.disk c.in_ok-looked.ensures.runs c.in_ok-looked.ensures.directory
-    (tt, λ bytes room. inl (c.if-is_primary.true, refl))
+    (tt, λ bytes room. RemoveKept c.if-is_primary.true refl)
 
 pub returns-then-is_primary-clause-order : goal.returns-then-is_primary-clause-order
 returns-then-is_primary-clause-order g c =
@@ -30,7 +30,7 @@ returns-in_default-clause-handles g c =
     let dir = c.in_ok-looked.looked.dir in
     let Row = HandlesRemove c.args.is_primary place c.args.stamp c.args.index in
     handles_at_once g.D.Disk.seen g.D.Disk.left_since (folder_of place) Row dir Missing c.args.disk.now c.look_at.new.disk c.in_ok-looked.ensures.runs c.in_ok-looked.ensures.directory
-    (tt, λ bytes room. inr (c.if-is_primary.false, inl (c.in_default.ensures, refl)))
+    (tt, λ bytes room. RemoveMissing c.if-is_primary.false c.in_default.ensures refl)
 
 pub returns-in_default-clause-order : goal.returns-in_default-clause-order
 returns-in_default-clause-order g c =

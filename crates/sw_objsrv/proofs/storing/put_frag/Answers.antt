@@ -10,7 +10,7 @@ use Rattle.sw_diskfile.specs.Calls.{store_calls}
 use Rattle.sw_diskfile.specs.Changes.{IfBothTold, IsMadeStable}
 use Rattle.sw_diskfile.specs.Names.{MakesName}
 use Rattle.sw_ring.specs.Cluster.{ClusterModel}
-use Rattle.sw_message.specs.Table.{HandlesPutFrag, plain_text}
+use Rattle.sw_message.specs.Table.{HandlesPutFrag, PutFragSpoiled, PutFragSuperseded, PutFragThere, plain_text}
 use Rattle.sw_message.specs.declared.reply.Reply.{Reply}
 use Rattle.sw_objsrv.specs.Changing.{IsAtOnce}
 use Rattle.sw_objsrv.specs.Storing.{IsKnown}
@@ -26,11 +26,11 @@ use Rattle.sw_objsrv.proofs.storing.put_frag.Goals as goal
 known_at_once : (cluster : ClusterModel) (place : PlaceModel) (names : List FileName) (stamp index : ℕ) (bytes : List ℕ) (reply : Reply) → IsKnown cluster place names stamp index bytes reply
     → IsAtOnce (folder_of place) (HandlesPutFrag cluster place stamp index bytes) names reply
 known_at_once cluster place names stamp index bytes reply (inl spoil) =
-    subst (IsAtOnce (folder_of place) (HandlesPutFrag cluster place stamp index bytes) names) (sym spoil.2) (tt, λ content room. inl (spoil.0, spoil.1, refl))
+    subst (IsAtOnce (folder_of place) (HandlesPutFrag cluster place stamp index bytes) names) (sym spoil.2) (tt, λ content room. PutFragSpoiled spoil.0 spoil.1 refl)
 known_at_once cluster place names stamp index bytes reply (inr (asked, inl above)) =
-    subst (IsAtOnce (folder_of place) (HandlesPutFrag cluster place stamp index bytes) names) (sym above.2) (tt, λ content room. inr (asked, inl (above.0, above.1, refl)))
+    subst (IsAtOnce (folder_of place) (HandlesPutFrag cluster place stamp index bytes) names) (sym above.2) (tt, λ content room. PutFragSuperseded asked above.0 above.1 refl)
 known_at_once cluster place names stamp index bytes reply (inr (asked, inr there)) =
-    subst (IsAtOnce (folder_of place) (HandlesPutFrag cluster place stamp index bytes) names) (sym there.3) (tt, λ content room. inr (asked, inr (there.0, inl (there.1, there.2, refl))))
+    subst (IsAtOnce (folder_of place) (HandlesPutFrag cluster place stamp index bytes) names) (sym there.3) (tt, λ content room. PutFragThere asked there.0 there.1 there.2 refl)
 
 pub returns-in-Some-clause-handles : goal.returns-in-Some-clause-handles
 returns-in-Some-clause-handles g c =
