@@ -56,6 +56,7 @@ grown cluster s id x event v w k at inside dues free node histories facts olds m
       closed = closed;
       olds = λ o has. let c = f.olds o (subst (λ z. Contains z o) olds has) in record { drawn = λ y d. subst (λ z. Contains z y) (sym facts) (c.drawn y d); histories = λ y. continues_more (history w.histories y) (history v.histories y) (history o.histories y) (later y) (c.histories y) };
       mark = let m = f.mark in omega arith;
+      clock = let e = like.clock in let m = f.clock in omega arith;
       late = λ y has. let c = f.late y (subst (λ z. Contains z y) late has) in let l = continues_length (g'.past y) (g.past y) (more y) in omega arith;
       full = λ is. f.full (sym full ∙ is);
       crowded = λ is. f.crowded (sym crowded ∙ is);
@@ -203,6 +204,7 @@ late_keeps cluster s id x v k at begun =
       closed = f.closed;
       olds = λ o has. let c = f.olds o has in record { drawn = c.drawn; histories = c.histories };
       mark = f.mark;
+      clock = f.clock;
       late = λ y has. ⊎_elim (λ (e : x ≡ y). subst (λ z. 0 < length (k.account.past z)) e begun) (λ (c : Contains v.late y). f.late y c) (Contains-cases x v.late y has);
       full = f.full;
       crowded = f.crowded;

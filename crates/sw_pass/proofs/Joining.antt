@@ -59,6 +59,7 @@ joined_fits cluster g n l views id other v w a b = record {
   });
   olds = λ o c. ⊎_elim (λ (e : old_of v ≡ o). subst (Covers (joined v w)) e covers_v) (λ (e : old_of w ≡ o). subst (Covers (joined v w)) e covers_w) (two_olds (old_of v) (old_of w) o c);
   mark = let m = a.mark in let m' = b.mark in omega arith;
+  clock = a.clock;
   late = a.late;
   full = a.full;
   crowded = λ is. either_crowded v.crowded w.crowded refl refl is;
@@ -93,6 +94,7 @@ spent_fits cluster g n l views id = record {
   closed = nothing_closed cluster;
   olds = λ o c. absurd (Contains-none o c);
   mark = omega arith;
+  clock = omega arith;
   late = λ x c. absurd (Contains-none x c);
   full = λ is. absurd (true≢false (sym is));
   crowded = λ is. absurd (true≢false (sym is));

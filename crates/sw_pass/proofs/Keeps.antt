@@ -24,7 +24,7 @@ pub agree_sym : (fs gs : List Drawn) → AllAgree fs gs → AllAgree gs fs
 agree_sym fs gs h g f b a e = sym (h f g a b (sym e))
 
 pub crowd : (cluster : ClusterModel) (g : Account) (n l views views' id : ℕ) (v : Known) → views ≤ views' → Fits cluster g n l views id v → Fits cluster g n l views' id v
-crowd cluster g n l views views' id v le f = record { kind = f.kind; drawn = f.drawn; histories = f.histories; closed = f.closed; olds = f.olds; mark = f.mark; late = f.late; full = f.full; crowded = λ is. let c = f.crowded is in omega arith }
+crowd cluster g n l views views' id v le f = record { kind = f.kind; drawn = f.drawn; histories = f.histories; closed = f.closed; olds = f.olds; mark = f.mark; clock = f.clock; late = f.late; full = f.full; crowded = λ is. let c = f.crowded is in omega arith }
 
 -- what fits a seat still does where the words and the histories grow
 pub fits_grown : (cluster : ClusterModel) (g g' : Account) (n n' l l' views id : ℕ) (v : Known) → n ≤ n' → l ≤ l' → ((x : ℕ) → Continues (g'.past x) (g.past x)) → ((f : Drawn) → IsDrawn cluster g n l f → (device : ℕ) → IsGuarded cluster device f.stamp f.mark (due g' (slot_of cluster device)))
@@ -36,6 +36,7 @@ fits_grown cluster g g' n n' l l' views id v a b more guard fit f = record {
   closed = f.closed;
   olds = f.olds;
   mark = let m = f.mark in omega arith;
+  clock = let m = f.clock in omega arith;
   late = λ x has. let h = f.late x has in let c = continues_length (g'.past x) (g.past x) (more x) in omega arith;
   full = λ is. let m = f.full is in omega arith;
   crowded = f.crowded;

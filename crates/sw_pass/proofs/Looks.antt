@@ -38,13 +38,14 @@ reads cluster slots id v cs s h _ at _ =
         closed = f.closed;
         olds = λ o has. let c = f.olds o has in record { drawn = c.drawn; histories = c.histories };
         mark = omega arith;
+        clock = f.clock;
         late = f.late;
         full = f.full;
         crowded = f.crowded;
       })),
       (
         refl,
-        refl,
+        (refl, λ was. was),
         λ _. (
           f.mark,
           λ x. dite (dec_le (size_of cluster) x)
@@ -58,7 +59,7 @@ reads cluster slots id v cs s h _ at _ =
       keeps,
       tt,
       loads cluster (size_of cluster + 1) id s cs (with_crowd true (marked l v)) (λ few. absurd (omega arith)),
-      (refl, refl, λ is. absurd (true≢false is)),
+      (refl, (refl, λ _. refl), λ is. absurd (true≢false is)),
     ))
 
 pub reads_at : (cluster : ClusterModel) (slots id word : ℕ) (v : Known) (cs : List (ℕ × Unit)) → word ≡ size_of cluster + 1
@@ -80,13 +81,14 @@ learns cluster slots id v cs s h _ at _ =
         closed = f.closed;
         olds = λ o has. absurd (Contains-none o has);
         mark = f.mark;
+        clock = f.clock;
         late = f.late;
         full = f.full;
         crowded = f.crowded;
       })),
       (
         refl,
-        refl,
+        (refl, λ was. was),
         λ _. record {
           few = not_crowded cluster _ _ (length s.views) id k.account v few f v.crowded refl;
           covers = f.olds;
@@ -103,7 +105,7 @@ learns cluster slots id v cs s h _ at _ =
       keeps,
       tt,
       loads cluster 0 id s cs (with_crowd true (learned v)) (λ few. absurd (omega arith)),
-      (refl, refl, λ is. absurd (true≢false is)),
+      (refl, (refl, λ _. refl), λ is. absurd (true≢false is)),
     ))
 
 -- a split: the new seat knows what the other does
@@ -122,6 +124,7 @@ splits cluster id v new alive kinds s h at few =
       closed = f.closed;
       olds = λ o has. absurd (Contains-none o has);
       mark = f.mark;
+      clock = omega arith;
       late = λ x c. absurd (Contains-none x c);
       full = λ is. absurd (true≢false (sym is));
       crowded = f.crowded;

@@ -39,6 +39,7 @@ lost_keeps cluster s id x v k at node fewer owes =
       closed = f.closed;
       olds = λ o has. let c = f.olds o has in record { drawn = c.drawn; histories = c.histories };
       mark = let m = f.mark in omega arith;
+      clock = f.clock;
       late = f.late;
       full = f.full;
       crowded = f.crowded;

@@ -10,12 +10,12 @@ use Rattle.sw_pass.proofs.Histories.{history_same}
 pub node_joined : (x : ℕ) (v w u : Known) → IsNode x v → RestOf u (learned (joined v w)) → IsNode x u
 node_joined x v w u node rest =
     let own : history (own_kept v.kind v.histories w.histories) x ≡ history v.histories x = subst (λ z. history (own_kept z v.histories w.histories) x ≡ history v.histories x) (sym node.kind) (history_same (longest v.histories w.histories) x (history v.histories x)) in
-    let h : history u.histories x ≡ history v.histories x = ap (λ z. history z.histories x) rest ∙ own in
+    let h : history u.histories x ≡ history v.histories x = ap (λ z. history z.histories x) rest.0 ∙ own in
     let l : length (history u.histories x) ≡ length (history v.histories x) = ap length h in
-    let n : u.joined ≡ v.joined + is_node v.kind = ap (λ z. z.joined) rest in
+    let n : u.joined ≡ v.joined + is_node v.kind = ap (λ z. z.joined) rest.0 in
     let m : is_node v.kind ≡ 1 = ap is_node node.kind in
     let r = node.room in
-    record { kind = ap (λ z. z.kind) rest ∙ node.kind; room = omega arith }
+    record { kind = ap (λ z. z.kind) rest.0 ∙ node.kind; room = omega arith }
 
 pub joined_by : (x : ℕ) (m v w u : Known) → m ≡ joined v w → IsNode x v → RestOf u (learned m) → IsNode x u
 joined_by x m v w u e node rest = node_joined x v w u node (subst (λ z. RestOf u (learned z)) e rest)

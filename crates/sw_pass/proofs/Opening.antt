@@ -33,6 +33,7 @@ starts cluster ws xs rules wide zeros few = record {
       closed = nothing_closed cluster;
       olds = λ o c. absurd (Contains-none o c);
       mark = omega arith;
+      clock = omega arith;
       late = λ x c. absurd (Contains-none x c);
       full = λ is. absurd (true≢false (sym is));
       crowded = λ is. absurd (true≢false (sym is));

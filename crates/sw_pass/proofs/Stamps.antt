@@ -17,12 +17,12 @@ use Rattle.sw_view.specs.View.{IsClosed}
 use Rattle.sw_pass.specs.Known.{AllAgree, history, size_of, slot_of, view_of, view_with}
 use Rattle.sw_pass.specs.Losses.{with_owed}
 use Rattle.sw_pass.specs.Rule.{CountsFit, DeviceFits, Fits, IsDrawn, IsKept, IsRuled, KindFits, Table, due, is_spent, one_if, total}
-use Rattle.sw_pass.specs.Steps.{MayDraw, Raises, Takes, counted, drew, fact_of, filled, raise, raised, take}
+use Rattle.sw_pass.specs.Steps.{MayDraw, Raises, Takes, counted, drew, fact_of, filled, raise, raised, take, with_crowd}
 use Rattle.sw_pass.specs.declared.known.Drawn.{Drawn}
 use Rattle.sw_pass.specs.declared.known.Known.{Known}
 use Rattle.sw_pass.proofs.Counts.{greatest_set, total_flags, total_set}
 use Rattle.sw_pass.proofs.Histories.{continues_itself}
-use Rattle.sw_pass.proofs.Keeps.{device_more, few_before, fits_more, kind_like, moved, nodes_like}
+use Rattle.sw_pass.proofs.Keeps.{device_more, few_before, few_or_many, fits_more, kind_like, moved, nodes_like}
 use Rattle.sw_pass.proofs.Views.{closed_after, grows_with}
 
 tested : (a n : ℕ) (P : Bool → Type 0) (b : Bool) → nat_lt a n ≡ b → (a < n → P true) → (n ≤ a → P false) → P b
@@ -82,6 +82,7 @@ raised_keeps cluster s id clock v w k at le rests kinds facts hs olds mark up dr
       closed = subst (λ z. IsClosed cluster (view_with cluster w.drawn z)) (sym hs) (subst (λ z. IsClosed cluster (view_with cluster z v.histories)) (sym facts) f.closed);
       olds = λ o has. let c = f.olds o (subst (λ z. Contains z o) olds has) in record { drawn = λ x y. subst (λ z. Contains z x) (sym facts) (c.drawn x y); histories = subst (λ z. (x : ℕ) → Continues (history z x) (history o.histories x)) (sym hs) c.histories };
       mark = let m = f.mark in omega arith;
+      clock = let m = f.clock in omega arith;
       late = λ x has. f.late x (subst (λ z. Contains z x) late has);
       full = λ is. let m = full is in omega arith;
       crowded = λ is. f.crowded (sym crowded ∙ is);
@@ -176,6 +177,7 @@ drew_keeps cluster s id name object v k at was may bound =
           (λ device event has. inl has) f.closed.replayed f.closed;
       olds = λ o has. let c = f.olds o has in record { drawn = λ x y. Contains-later fact v.drawn x (c.drawn x y); histories = c.histories };
       mark = f.mark;
+      clock = f.clock;
       late = f.late;
       full = f.full;
       crowded = f.crowded;
@@ -200,6 +202,7 @@ filled_keeps cluster s id v k at was above =
       closed = f.closed;
       olds = λ o has. let c = f.olds o has in record { drawn = c.drawn; histories = c.histories };
       mark = f.mark;
+      clock = f.clock;
       late = f.late;
       full = λ is. omega arith;
       crowded = f.crowded;
@@ -215,15 +218,24 @@ whole_step n l P p = subst P (sym (mod-eq_of_lt l)) p
 pub takes : (cluster : ClusterModel) (slots id : ℕ) (name : NameModel) (object : Option ObjectModel) (v : Known) (cs : List (ℕ × Unit)) → MayDraw name object → v.raising ≡ true
     → Allows (IsRuled cluster) slots id (v, cs) 0 (λ n. (n + 1) % 2 ^ 64) (Takes name object (step slots 0 1 0 none) (v, cs))
 takes cluster slots id name object v cs may was s h _ at _ =
-    let n : ℕ = get_or s.words 0 0 in (
+    let n : ℕ = get_or s.words 0 0 in
+    few_or_many (length s.views) _
+    (λ few. let f = (h few).each id v at in (
       take name object n v,
       keeps,
       tt,
       by_left n (λ w. IsRuled cluster (stepped s 0 ((n + 1) % 2 ^ 64) id cs w keeps)) (filled (counted v)) (drew n name object v)
           (λ above few. let k = h (few_before s id _ few) in whole_step n (small k (few_before s id _ few)) (λ x. IsKept cluster (record { words = set s.words 0 x; homes = s.homes; views = set s.views id (filled (counted v)) })) (filled_keeps cluster s id v k at was above))
           (λ below few. let k = h (few_before s id _ few) in whole_step n (small k (few_before s id _ few)) (λ x. IsKept cluster (record { words = set s.words 0 x; homes = s.homes; views = set s.views id (drew n name object v) })) (drew_keeps cluster s id name object v k at was may below)),
-      refl,
-    )
+      (refl, (refl, λ crowd. crowd), λ _. record { clock = f.clock; above = λ fact has. (f.drawn fact has).stamp }),
+    ))
+    (λ many. (
+      with_crowd true (take name object n v),
+      keeps,
+      tt,
+      λ few. absurd (let less = few_before s id _ few in omega arith),
+      (refl, (refl, λ _. refl), λ is. absurd (true≢false is)),
+    ))
   where
     small : IsKept cluster s → length s.views < 2 ^ 63 → get_or s.words 0 0 + 1 < 2 ^ 64
     small k few = let p = k.counts.pending in omega arith

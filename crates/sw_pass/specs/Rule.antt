@@ -107,7 +107,8 @@ pub record IsDrawn (cluster : ClusterModel) (account : Account) (stamps losses :
   pub mark : drawn.mark ≤ losses
   pub guarded : (device : ℕ) → IsGuarded cluster device drawn.stamp drawn.mark (due account (slot_of cluster device))
 
--- What holds of one seat: its histories begin as all that happened did, and it is closed by what it knows itself.
+-- What holds of one seat: its histories begin as all that happened did, it is closed by what it knows itself, and word 0 is no less than the
+-- clock that it raised to.
 pub record Fits (cluster : ClusterModel) (account : Account) (stamps losses seats id : ℕ) (known : Known) : Type 0 where
   pub kind : KindFits cluster account id known known.kind
   pub drawn : (fact : Drawn) → Contains known.drawn fact → IsDrawn cluster account stamps losses fact
@@ -115,6 +116,7 @@ pub record Fits (cluster : ClusterModel) (account : Account) (stamps losses seat
   pub closed : IsClosed cluster (view_of cluster known)
   pub olds : (old : Old) → Contains known.olds old → Covers known old
   pub mark : known.mark ≤ losses
+  pub clock : known.clock ≤ stamps
   pub late : (slot : ℕ) → Contains known.late slot → 0 < length (account.past slot)
   pub full : known.full ≡ true → greatest_stamp < stamps
   pub crowded : known.crowded ≡ true → 2 ^ 63 ≤ seats

@@ -1,5 +1,5 @@
 -- How each step changes what its seat knows, and what it tells.
-use Rattle.std.specs.Prelude.{◌≡◌, ◌⊎◌, ℕ, ◌+◌, ◌-◌, ◌≤◌, ◌==◌, ◌||◌, max, nat_lt, if◌then◌else◌, Bool, true, false, List, [], ◌∷◌, ◌++◌, length, Contains, Option, Some, None, IfSome}
+use Rattle.std.specs.Prelude.{◌≡◌, ◌⊎◌, ℕ, ◌+◌, ◌-◌, ◌<◌, ◌≤◌, ◌==◌, ◌||◌, max, nat_lt, if◌then◌else◌, Bool, true, false, List, [], ◌∷◌, ◌++◌, length, Contains, Option, Some, None, IfSome}
 use Rattle.atomic_table.specs.Table.{Me, Step}
 use Rattle.sw_types.specs.Name.{NameModel, name_fault}
 use Rattle.sw_types.specs.Object.{IsObject, ObjectModel}
@@ -97,9 +97,9 @@ learned known = record known { olds = [] }
 abbrev pub with_crowd : Bool → Known → Known
 with_crowd crowded known = record known { crowded = crowded }
 
--- two that know the same, but whether 2^63 seats were made
+-- two that know the same, but that one may have found that 2^63 seats were made
 abbrev pub RestOf : Known → Known → Type 0
-RestOf one other = one ≡ with_crowd one.crowded other
+RestOf one other = (one ≡ with_crowd one.crowded other) × (other.crowded ≡ true → one.crowded ≡ true)
 
 -- what a join tells: what both knew is known, and the view is sound
 pub record Knows (cluster : ClusterModel) (known : Known) : Type 0 where
@@ -139,7 +139,12 @@ take name object found known = if nat_lt greatest_stamp found then filled (count
 
 -- the stamps were found to be spent, at the raise or at the draw
 abbrev pub Refused : (clock : ℕ) → (before after : Known) → Type 0
-Refused clock before after = (after ≡ filled (raised clock before)) ⊎ (after ≡ filled (counted (raised clock before)))
+Refused clock before after = (after ≡ filled (raised clock before)) ⊎ RestOf after (filled (counted (raised clock before)))
+
+-- a stamp is no less than the clock that the seat raised to, and above each that the seat knew
+pub record IsFresh (stamp : ℕ) (known : Known) : Type 0 where
+  pub clock : known.clock ≤ stamp
+  pub above : (fact : Drawn) → Contains known.drawn fact → fact.stamp < stamp
 
 -- a name and an object that may be put, or a name that may be deleted
 abbrev pub MayDraw : NameModel → Option ObjectModel → Type 0
@@ -174,7 +179,7 @@ abbrev pub Raises : Step Unit → Me Unit Known → ℕ → Me Unit Known → Ty
 Raises step before found after = after ≡ (raise step.first found before.0, before.1)
 
 abbrev pub Takes : NameModel → Option ObjectModel → Step Unit → Me Unit Known → ℕ → Me Unit Known → Type 0
-Takes name object step before found after = after ≡ (take name object found before.0, before.1)
+Takes name object step before found after = (after.1 ≡ before.1) × RestOf after.0 (take name object found before.0) × (after.0.crowded ≡ false → IsFresh found before.0)
 
 abbrev pub Reads : Step Unit → Me Unit Known → ℕ → Me Unit Known → Type 0
 Reads step before found after = (after.1 ≡ before.1) × RestOf after.0 (marked found before.0)

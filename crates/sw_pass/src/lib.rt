@@ -18,3 +18,6 @@ pub use crate::note::Note;
 pub use crate::pass::Pass;
 pub use crate::rule::{OfCluster, StampRule};
 pub use crate::table::StampTable;
+
+#[cfg(test)]
+mod tests;

@@ -5,7 +5,7 @@ ghost use Rattle.sw_types.specs.Name.{name_fault};
 ghost use Rattle.sw_types.specs.Object.{IsObject};
 ghost use Rattle.sw_pass.specs.Known.{history};
 ghost use Rattle.sw_pass.specs.Losses.{LossesBelow};
-ghost use Rattle.sw_pass.specs.Steps.{Knows, MayDraw, Refused, RestOf, drew, joined, learned, marked, noted, passed, raised};
+ghost use Rattle.sw_pass.specs.Steps.{IsFresh, Knows, MayDraw, Refused, RestOf, drew, joined, learned, marked, noted, passed, raised};
 ghost use Rattle.sw_pass.specs.declared.known.Kind.TheVariants as kind;
 
 use crate::happening::Cause;
@@ -49,7 +49,8 @@ impl<C: OfCluster> Pass<C> {
     }
 
     /// Draws the stamp of a put of this name and object, or of a delete of this name where there is no object: the number of stamps is raised to
-    /// the clock, and one is taken. `StampsSpent` comes where one of these two steps found that none is left.
+    /// the clock, and one is taken. It is no less than the clock, and above each stamp that the pass knew. `StampsSpent` comes where one of these
+    /// two steps found that none is left.
     pub fn draw(
         &mut self,
         table: &StampTable<C>,
@@ -61,7 +62,8 @@ impl<C: OfCluster> Pass<C> {
         requires name { name_fault name.now ≡ None }
         requires object { IfSome (option_copied object) IsObject }
         ensures table { self.new.table ≡ self.old.table }
-        ensures drawn { IfOk result (λ stamp. self.new.known ≡ drew stamp name.now (option_copied object.entry) (raised clock self.old.known)) }
+        ensures drawn { IfOk result (λ stamp. RestOf self.new.known (drew stamp name.now (option_copied object.entry) (raised clock self.old.known))) }
+        ensures fresh { IfOk result (λ stamp. self.new.known.crowded ≡ false → IsFresh stamp (raised clock self.old.known)) }
         ensures spent { OnErr result (Refused clock self.old.known self.new.known) }
     {
         self.draw_for::<Brand>(table, clock, name, object)
@@ -79,7 +81,8 @@ impl<C: OfCluster> Pass<C> {
         requires object { option_copied object ≡ J.object }
         requires may { MayDraw J.name J.object }
         ensures table { self.new.table ≡ self.old.table }
-        ensures drawn { IfOk result (λ stamp. self.new.known ≡ drew stamp J.name J.object (raised clock self.old.known)) }
+        ensures drawn { IfOk result (λ stamp. RestOf self.new.known (drew stamp J.name J.object (raised clock self.old.known))) }
+        ensures fresh { IfOk result (λ stamp. self.new.known.crowded ≡ false → IsFresh stamp (raised clock self.old.known)) }
         ensures spent { OnErr result (Refused clock self.old.known self.new.known) }
     {
         let words = &table.table.shared;
