@@ -4,6 +4,7 @@ ghost use Rattle.std.specs.Prelude.{◌≤◌, length};
 
 use crate::{HostDisk, HostShelf};
 use std::alloc::Global;
+use std::os::unix::fs::symlink;
 use std::process::{Abort, id};
 use std::rt::LibcRuntime;
 use std::test::Fail;
@@ -17,11 +18,11 @@ const FOLDER: &str = "objects/9/f72/900150983cd24fb0d6963f7d28e17f72";
 
 const OTHER: &str = "objects/9/a0b/00000000000000000000000000000a0b";
 
-// A folder of the host that is empty and only of this run.
-fn empty_folder(rt: &LibcRuntime) -> Result<String, Fail> {
+// A folder of the host that is empty and only of this test and run.
+fn empty_folder(rt: &LibcRuntime, test: &str) -> Result<String, Fail> {
     let temp = env::temp_dir(rt)?;
     let path = format!(in rt.alloc();
-        "{}/hostdisk-{}",
+        "{}/hostdisk-{test}-{}",
         temp.as_path().display(),
         id(rt.process())
     )?;
@@ -55,10 +56,10 @@ fn expect_names(
 ) -> Result<(), Fail> {
     let listed = disk.list(alloc, FOLDER)?;
     assert_eq!(rt; listed.len(), names.len());
-    for place in 0..4usize {
+    for index in 0..4usize {
         assert_eq!(rt;
-            listed.get(place).map(|name| name.as_str()),
-            names.get(place).copied()
+            listed.get(index).map(|name| name.as_str()),
+            names.get(index).copied()
         );
     }
     Ok(())
@@ -77,7 +78,7 @@ fn expect_full(rt: &impl Abort, alloc: Global, disk: &mut TestDisk, need: u64, f
 #[test]
 fn keeps_files_of_the_host(rt: HostRuntime) -> Result<(), Fail> {
     let alloc = rt.alloc();
-    let root = empty_folder(&rt)?;
+    let root = empty_folder(&rt, "files")?;
     if root.len() > 512 {
         return Err("the path is too long".into());
     }
@@ -100,6 +101,66 @@ fn keeps_files_of_the_host(rt: HostRuntime) -> Result<(), Fail> {
     expect_foreign_files(&rt, &base)?;
     fs::remove_dir_all(&rt, &root)?;
     Ok(())
+}
+
+#[test]
+fn fails_where_the_host_does(rt: HostRuntime) -> Result<(), Fail> {
+    let alloc = rt.alloc();
+    let root = empty_folder(&rt, "faults")?;
+    if root.len() > 512 {
+        return Err("the path is too long".into());
+    }
+    let mut shelf = HostShelf::new(rt.clone()?, &root);
+    let mut disk = shelf.disk(alloc, 3, 10)?;
+    let base = format!(in alloc; "{root}/data/3")?;
+    fill_host(&rt, &rt, &mut disk, &base)?;
+    lose_new_folder(&rt, &rt, &mut disk, &base)?;
+    shelf.back(3, disk);
+    fs::remove_dir_all(&rt, &root)?;
+    Ok(())
+}
+
+// A write for which the host has no room fails.
+fn fill_host(
+    rt: &impl Abort,
+    host: &LibcRuntime,
+    disk: &mut TestDisk,
+    base: &str,
+) -> Result<(), Fail> {
+    let temporary = format!(in host.alloc(); "{base}/tmp")?;
+    symlink(host, "/dev/full", &temporary)?;
+    assert_eq!(rt;
+        disk.write_tmp(host.alloc(), b"1"),
+        Err(DiskRefusal::Failed)
+    );
+    fs::remove_file(host, &temporary)?;
+    Ok(())
+}
+
+// While the name of a new folder can't be made stable, no other is made.
+fn lose_new_folder(
+    rt: &impl Abort,
+    host: &LibcRuntime,
+    disk: &mut TestDisk,
+    base: &str,
+) -> Result<(), Fail> {
+    let alloc = host.alloc();
+    publish_new(disk, alloc)?;
+    let suffix = format!(in alloc; "{base}/objects/9/f72")?;
+    let away = format!(in alloc; "{base}.away")?;
+    fs::rename(host, &suffix, &away)?;
+    assert!(rt; put(disk, alloc, OTHER, "e", b"1").is_err());
+    fs::rename(host, &away, &suffix)?;
+    put(disk, alloc, OTHER, "e", b"1")?;
+    expect_folders(rt, alloc, disk, &[OTHER, FOLDER])
+}
+
+// Publishes a file in a new folder, whose name is not made stable.
+fn publish_new(disk: &mut TestDisk, alloc: Global) -> Result<(), DiskRefusal> {
+    disk.ready(alloc, FOLDER, 1)?;
+    disk.write_tmp(alloc, b"2")?;
+    disk.sync_tmp()?;
+    disk.publish(FOLDER, "f")
 }
 
 fn change_files(rt: &impl Abort, alloc: Global, disk: &mut TestDisk) -> Result<(), Fail> {
@@ -131,10 +192,10 @@ fn expect_folders(
 ) -> Result<(), Fail> {
     let listed = disk.folders(alloc)?;
     assert_eq!(rt; listed.len(), folders.len());
-    for place in 0..2usize {
+    for index in 0..2usize {
         assert_eq!(rt;
-            listed.get(place).map(|folder| folder.as_str()),
-            folders.get(place).copied()
+            listed.get(index).map(|folder| folder.as_str()),
+            folders.get(index).copied()
         );
     }
     Ok(())
@@ -224,9 +285,9 @@ const FOREIGN: [&str; 3] = [
 ];
 
 fn add_foreign_files(rt: &LibcRuntime, base: &str) -> Result<(), Fail> {
-    for (place, path) in FOREIGN.iter().enumerate() {
+    for (index, path) in FOREIGN.iter().enumerate() {
         let path = format!(in rt.alloc(); "{base}/{path}")?;
-        if place == 2 {
+        if index == 2 {
             fs::create_dir(rt, path.as_str())?;
         } else {
             fs::write(rt, path.as_str(), "1")?;
