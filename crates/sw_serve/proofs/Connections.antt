@@ -69,9 +69,9 @@ module _ {L : Type 0} (ways : Ways L) (cluster : ClusterModel) where
   pub none_left : (count : ℕ) (left left' written written' : Option (List ℕ)) (unused : List ℕ) (before after : L) → greatest_answers ≤ count → count ≤ greatest_answers → HasServed count left left' written written' unused before after → ⊥
   none_left count left left' written written' unused before after least most h = never_behind h.got h.exchanges before after unused (omega (arith, h.counted, least, most)) h.served h.go_on
 
-  module _ (count : ℕ) (left middle left' written between written' : Option (List ℕ)) (unused unused' : List ℕ) (before link after : L) (h : HasServed count left middle written between unused before link) where
+  module _ (count : ℕ) (left middle left' written between written' : Option (List ℕ)) (faults faults' : ℕ) (unused unused' : List ℕ) (before link after : L) (h : HasServed count left middle written between unused before link) where
     -- what was asked next was answered
-    module _ (closes : Bool) (t : TakesTurn ways cluster (count + 1) middle left' between written' unused unused' link after (Answered closes)) where
+    module _ (closes : Bool) (t : TakesTurn ways cluster (count + 1) middle left' between written' faults faults' unused unused' link after (Answered closes)) where
       abbrev next : Exchange
       next = t.is.0
 
@@ -105,7 +105,7 @@ module _ {L : Type 0} (ways : Ways L) (cluster : ClusterModel) where
         writes = written_next;
       }
 
-      pub closed : closes ≡ true → count < greatest_answers → Serves ways cluster left left' written written' before end.Closed after
+      pub closed : closes ≡ true → count < greatest_answers → Serves ways cluster left left' written written' faults faults' before end.Closed after
       closed is few = record {
         got = h.got ++ t.got;
         consumed = consumed_next;
@@ -120,7 +120,7 @@ module _ {L : Type 0} (ways : Ways L) (cluster : ClusterModel) where
       }
 
     -- it ended
-    ends_so : (result : ConnEnd) (bytes told : List ℕ) (exchanges : List Exchange) → GoOn exchanges → length exchanges ≡ count → IsTurn ways cluster (count + 1) bytes left' link after unused' (Over result) told → IsEnd ways cluster result bytes left' exchanges link after told
+    ends_so : (result : ConnEnd) (bytes told : List ℕ) (exchanges : List Exchange) → GoOn exchanges → length exchanges ≡ count → IsTurn ways cluster (count + 1) bytes left' link after unused' (Over result) faults faults' told → IsEnd ways cluster result bytes left' exchanges link after faults faults' told
     ends_so end.Closed bytes told [] go counted is = is
     ends_so end.Closed bytes told (last ∷ earlier) go counted is = (is.0, is.1, inr (go, is.2, is.3))
     ends_so end.Cut bytes told exchanges go counted is = (go, is.0, is.1)
@@ -128,7 +128,7 @@ module _ {L : Type 0} (ways : Ways L) (cluster : ClusterModel) where
     ends_so end.WriteFault bytes told exchanges go counted is = (go, subst (λ (n : ℕ). IsCutOff ways cluster bytes (n + 1) link after told) (sym counted) is)
     ends_so end.NoMemory bytes told exchanges go counted is = (go, is)
 
-    pub over : (result : ConnEnd) → TakesTurn ways cluster (count + 1) middle left' between written' unused unused' link after (Over result) → count < greatest_answers → Serves ways cluster left left' written written' before result after
+    pub over : (result : ConnEnd) → TakesTurn ways cluster (count + 1) middle left' between written' faults faults' unused unused' link after (Over result) → count < greatest_answers → Serves ways cluster left left' written written' faults faults' before result after
     over result t few = record {
       got = h.got ++ t.got;
       consumed = Consumes-trans left middle left' h.got t.got h.consumed t.consumed;

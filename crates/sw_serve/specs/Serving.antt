@@ -2,6 +2,7 @@
 use Rattle.std.specs.Prelude.{◌≡◌, ◌⊎◌, ◌==◌, ◌||◌, ◌<◌, ◌≤◌, ◌+◌, ℕ, Bool, true, false, if◌then◌else◌, List, [], ◌∷◌, ◌++◌, length, take, Option, None, Result, Ok, ⊤}
 use Rattle.std.specs.Io.KnownBytes.{Appends, Consumes}
 use Rattle.sw_types.specs.declared.memory.NoMemory.{NoMemory as Refusal}
+use Rattle.sw_words.specs.Counts.{one_more}
 use Rattle.sw_ring.specs.Cluster.{ClusterModel}
 use Rattle.sw_httpread.specs.Bodies.{IsBodyNext}
 use Rattle.sw_httpread.specs.Heads.{IsHeadNext}
@@ -76,11 +77,13 @@ IsOpen bytes left no_head no_body written =
     ⊎ ((request : RequestHeadModel) × (how : Framing) × (waits : Bool) × (middle : List ℕ) × BeginsWith bytes request how waits middle
     × (unused : List ℕ) × IsBodyNext how middle left no_body unused × (written ≡ leave_bytes waits))
 
-abbrev pub IsFront : List ℕ → List ℕ → Type 0
-IsFront front whole = (n : ℕ) × (n ≤ length whole) × (front ≡ take n whole)
-
 abbrev pub IsProperFront : List ℕ → List ℕ → Type 0
 IsProperFront front whole = (n : ℕ) × (n < length whole) × (front ≡ take n whole)
+
+-- So much of an answer was written: all of it, or nothing where it could not be made, and no fault was counted; or less than all, where writing failed, which was counted.
+abbrev pub IsFront : (faults faults' : ℕ) → List ℕ → List ℕ → Type 0
+IsFront faults faults' front whole =
+    ((faults' ≡ faults) × ((front ≡ whole) ⊎ (front ≡ []))) ⊎ ((faults' ≡ one_more faults) × IsProperFront front whole)
 
 module _ {L : Type 0} (ways : Ways L) (cluster : ClusterModel) where
   -- leave was to be written, or the answer to what was asked behind it, and not all of it was
@@ -101,29 +104,29 @@ module _ {L : Type 0} (ways : Ways L) (cluster : ClusterModel) where
       ((request : RequestHeadModel) × (unused : List ℕ) × IsHeadNext bytes None (head.Head request) unused × (to_head ≡ is_head request))
       ⊎ ((to_head ≡ false) × (waits ≡ false) × (after ≡ before))
 
-  -- memory was wanted: leave may have been given, where it was due, and an answer that says so may have been written, or a front of it
-  pub record IsWanting (bytes : List ℕ) (before after : L) (written : List ℕ) : Type 0 where
+  -- Memory was wanted: leave may have been given, where it was due, and an answer that says so may have been written. The count of faults rose exactly where writing that answer failed.
+  pub record IsWanting (bytes : List ℕ) (before after : L) (faults faults' : ℕ) (written : List ℕ) : Type 0 where
     pub waits : Bool
     pub due : waits ≡ true → (request : RequestHeadModel) × (how : Framing) × (middle : List ℕ) × BeginsWith bytes request how true middle
     pub wants : Wants bytes waits before after
     pub to_head : Bool
     pub is_to_head : IsToHead bytes waits before after to_head
     pub front : List ℕ
-    pub is_front : IsFront front (response_bytes (wanting_answer to_head))
+    pub is_front : IsFront faults faults' front (response_bytes (wanting_answer to_head))
     pub written_is : written ≡ leave_bytes waits ++ front
 
   -- Behind some exchanges a connection ended like this, at these bytes; what was written behind the answers.
-  abbrev pub IsEnd : ConnEnd → List ℕ → (left : Option (List ℕ)) → List Exchange → (before after : L) → (written : List ℕ) → Type 0
-  IsEnd end.Closed bytes left [] before after written = (after ≡ before) × (written ≡ []) × (unused : List ℕ) × IsHeadNext bytes left head.End unused
-  IsEnd end.Closed bytes left (last ∷ earlier) before after written =
+  abbrev pub IsEnd : ConnEnd → List ℕ → (left : Option (List ℕ)) → List Exchange → (before after : L) → (faults faults' : ℕ) → (written : List ℕ) → Type 0
+  IsEnd end.Closed bytes left [] before after faults faults' written = (after ≡ before) × (written ≡ []) × (unused : List ℕ) × IsHeadNext bytes left head.End unused
+  IsEnd end.Closed bytes left (last ∷ earlier) before after faults faults' written =
       (after ≡ before) × (written ≡ []) × ((last.answer.close ≡ true) ⊎ ((last.answer.close ≡ false) × (unused : List ℕ) × IsHeadNext bytes left head.End unused))
-  IsEnd end.Cut bytes left exchanges before after written = GoOn exchanges × (after ≡ before) × IsOpen bytes left head.Cut body.Cut written
-  IsEnd end.ReadFault bytes left exchanges before after written = GoOn exchanges × (after ≡ before) × IsOpen bytes left head.ReadFault body.ReadFault written
-  IsEnd end.WriteFault bytes left exchanges before after written = GoOn exchanges × IsCutOff bytes (length exchanges + 1) before after written
-  IsEnd end.NoMemory bytes left exchanges before after written = GoOn exchanges × IsWanting bytes before after written
+  IsEnd end.Cut bytes left exchanges before after faults faults' written = GoOn exchanges × (after ≡ before) × IsOpen bytes left head.Cut body.Cut written
+  IsEnd end.ReadFault bytes left exchanges before after faults faults' written = GoOn exchanges × (after ≡ before) × IsOpen bytes left head.ReadFault body.ReadFault written
+  IsEnd end.WriteFault bytes left exchanges before after faults faults' written = GoOn exchanges × IsCutOff bytes (length exchanges + 1) before after written
+  IsEnd end.NoMemory bytes left exchanges before after faults faults' written = GoOn exchanges × IsWanting bytes before after faults faults' written
 
   -- a connection was served to this end
-  pub record Serves (left left' written written' : Option (List ℕ)) (before : L) (result : ConnEnd) (after : L) : Type 0 where
+  pub record Serves (left left' written written' : Option (List ℕ)) (faults faults' : ℕ) (before : L) (result : ConnEnd) (after : L) : Type 0 where
     pub got : List ℕ
     pub consumed : Consumes left left' got
     -- the newest of them first
@@ -133,5 +136,5 @@ module _ {L : Type 0} (ways : Ways L) (cluster : ClusterModel) where
     pub between : L
     pub served : AreServed ways cluster got exchanges before between rest
     pub behind : List ℕ
-    pub ends : IsEnd result rest left' exchanges between after behind
+    pub ends : IsEnd result rest left' exchanges between after faults faults' behind
     pub writes : Appends written written' (written_of exchanges ++ behind)

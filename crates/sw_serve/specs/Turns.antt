@@ -20,11 +20,11 @@ use Rattle.sw_serve.specs.declared.turn.Turn.{Turn}
 use Rattle.sw_serve.specs.declared.turn.Turn.TheVariants.{Answered, Over}
 
 -- an answer was written, or a front of it, or of the one that says that memory was wanted
-abbrev pub IsSent : AnswerModel → (to_head : Bool) → Turn → List ℕ → Type 0
-IsSent answer to_head (Answered closes) written = (closes ≡ answer.close) × (written ≡ response_bytes answer)
-IsSent answer to_head (Over end.WriteFault) written = IsProperFront written (response_bytes answer)
-IsSent answer to_head (Over end.NoMemory) written = IsFront written (response_bytes (wanting_answer to_head))
-IsSent answer to_head (Over other) written = ⊥
+abbrev pub IsSent : AnswerModel → (to_head : Bool) → Turn → (faults faults' : ℕ) → List ℕ → Type 0
+IsSent answer to_head (Answered closes) faults faults' written = (closes ≡ answer.close) × (written ≡ response_bytes answer)
+IsSent answer to_head (Over end.WriteFault) faults faults' written = IsProperFront written (response_bytes answer)
+IsSent answer to_head (Over end.NoMemory) faults faults' written = IsFront faults faults' written (response_bytes (wanting_answer to_head))
+IsSent answer to_head (Over other) faults faults' written = ⊥
 
 -- ---- faults
 
@@ -53,41 +53,41 @@ pub record CountsTurn (turn : Turn) (before after : ℕ) : Type 0 where
 
 module _ {L : Type 0} (ways : Ways L) (cluster : ClusterModel) where
   -- what is left of the bytes, and what was written
-  abbrev pub IsTurn : (number : ℕ) → (had : List ℕ) → (left : Option (List ℕ)) → (before after : L) → (rest : List ℕ) → Turn → (written : List ℕ) → Type 0
-  IsTurn number had left before after rest (Answered closes) written =
+  abbrev pub IsTurn : (number : ℕ) → (had : List ℕ) → (left : Option (List ℕ)) → (before after : L) → (rest : List ℕ) → Turn → (faults faults' : ℕ) → (written : List ℕ) → Type 0
+  IsTurn number had left before after rest (Answered closes) faults faults' written =
       (one : Exchange) × IsAsked had one.asked one.waits rest × Replies ways cluster number one.asked before one.answer after × (closes ≡ one.answer.close) × (written ≡ exchange_bytes one)
-  IsTurn number had left before after rest (Over end.Closed) written = (after ≡ before) × (written ≡ []) × (unused : List ℕ) × IsHeadNext had left head.End unused
-  IsTurn number had left before after rest (Over end.Cut) written = (after ≡ before) × IsOpen had left head.Cut body.Cut written
-  IsTurn number had left before after rest (Over end.ReadFault) written = (after ≡ before) × IsOpen had left head.ReadFault body.ReadFault written
-  IsTurn number had left before after rest (Over end.WriteFault) written = IsCutOff ways cluster had number before after written
-  IsTurn number had left before after rest (Over end.NoMemory) written = IsWanting ways cluster had before after written
+  IsTurn number had left before after rest (Over end.Closed) faults faults' written = (after ≡ before) × (written ≡ []) × (unused : List ℕ) × IsHeadNext had left head.End unused
+  IsTurn number had left before after rest (Over end.Cut) faults faults' written = (after ≡ before) × IsOpen had left head.Cut body.Cut written
+  IsTurn number had left before after rest (Over end.ReadFault) faults faults' written = (after ≡ before) × IsOpen had left head.ReadFault body.ReadFault written
+  IsTurn number had left before after rest (Over end.WriteFault) faults faults' written = IsCutOff ways cluster had number before after written
+  IsTurn number had left before after rest (Over end.NoMemory) faults faults' written = IsWanting ways cluster had before after faults faults' written
 
   -- A turn of a connection with some unused bytes, from its beginning on.
-  pub record TakesTurn (number : ℕ) (left left' written written' : Option (List ℕ)) (unused unused' : List ℕ) (before after : L) (turn : Turn) : Type 0 where
+  pub record TakesTurn (number : ℕ) (left left' written written' : Option (List ℕ)) (faults faults' : ℕ) (unused unused' : List ℕ) (before after : L) (turn : Turn) : Type 0 where
     pub got : List ℕ
     pub consumed : Consumes left left' got
     pub told : List ℕ
     pub writes : Appends written written' told
-    pub is : IsTurn number (unused ++ got) left' before after unused' turn told
+    pub is : IsTurn number (unused ++ got) left' before after unused' turn faults faults' told
 
   -- Once a head was read.
-  pub record TakesHead (number : ℕ) (request : RequestHeadModel) (left left' written written' : Option (List ℕ)) (unused unused' : List ℕ) (before after : L) (turn : Turn) : Type 0 where
+  pub record TakesHead (number : ℕ) (request : RequestHeadModel) (left left' written written' : Option (List ℕ)) (faults faults' : ℕ) (unused unused' : List ℕ) (before after : L) (turn : Turn) : Type 0 where
     pub got : List ℕ
     pub consumed : Consumes left left' got
     pub told : List ℕ
     pub writes : Appends written written' told
-    pub is : (bytes : List ℕ) → IsHeadNext bytes None (head.Head request) (unused ++ got) → IsTurn number bytes left' before after unused' turn told
+    pub is : (bytes : List ℕ) → IsHeadNext bytes None (head.Head request) (unused ++ got) → IsTurn number bytes left' before after unused' turn faults faults' told
 
   -- Once it was found to have no defect, and leave was given where it was due.
-  pub record TakesBody (number : ℕ) (request : RequestHeadModel) (how : Framing) (left left' written written' : Option (List ℕ)) (unused unused' : List ℕ) (before after : L) (turn : Turn) : Type 0 where
+  pub record TakesBody (number : ℕ) (request : RequestHeadModel) (how : Framing) (left left' written written' : Option (List ℕ)) (faults faults' : ℕ) (unused unused' : List ℕ) (before after : L) (turn : Turn) : Type 0 where
     pub got : List ℕ
     pub consumed : Consumes left left' got
     pub told : List ℕ
     pub writes : Appends written written' told
-    pub is : (bytes : List ℕ) (waits : Bool) → BeginsWith bytes request how waits (unused ++ got) → IsTurn number bytes left' before after unused' turn (leave_bytes waits ++ told)
+    pub is : (bytes : List ℕ) (waits : Bool) → BeginsWith bytes request how waits (unused ++ got) → IsTurn number bytes left' before after unused' turn faults faults' (leave_bytes waits ++ told)
 
   -- Once the body was read.
-  pub record TakesRequest (number : ℕ) (request : RequestModel) (left written written' : Option (List ℕ)) (before after : L) (turn : Turn) : Type 0 where
+  pub record TakesRequest (number : ℕ) (request : RequestModel) (left written written' : Option (List ℕ)) (faults faults' : ℕ) (before after : L) (turn : Turn) : Type 0 where
     pub told : List ℕ
     pub writes : Appends written written' told
-    pub is : (bytes : List ℕ) (waits : Bool) (unused : List ℕ) → IsAsked bytes (Whole request) waits unused → IsTurn number bytes left before after unused turn (leave_bytes waits ++ told)
+    pub is : (bytes : List ℕ) (waits : Bool) (unused : List ℕ) → IsAsked bytes (Whole request) waits unused → IsTurn number bytes left before after unused turn faults faults' (leave_bytes waits ++ told)

@@ -11,6 +11,6 @@ pub enum ConnEnd {
     ReadFault,
     /// Writing failed, and the connection's count of faults rose.
     WriteFault,
-    /// Memory was wanted. An answer that says so, or a front of it, may have been written.
+    /// Memory was wanted. An answer that says so may have been written; where writing it failed, the count of faults rose.
     NoMemory,
 }

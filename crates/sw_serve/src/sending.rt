@@ -38,7 +38,7 @@ pub(crate) fn give_leave<N: Conn>(conn: &mut N, waits: bool) -> Result<(), Write
 /// Writes an answer.
 pub(crate) fn send<N: Conn>(alloc: Global, conn: &mut N, to_head: bool, answer: &Answer) -> Turn
     requires not_closed { N.closed conn.old ≡ false }
-    ensures sent { (told : List ℕ) × Appends (N.written conn.old) (N.written conn.new) told × IsSent answer.now to_head result told }
+    ensures sent { (told : List ℕ) × Appends (N.written conn.old) (N.written conn.new) told × IsSent answer.now to_head result (N.faults conn.old) (N.faults conn.new) told }
     ensures remaining { N.remaining conn.new ≡ N.remaining conn.old }
     ensures closed { N.closed conn.new ≡ N.closed conn.old }
     ensures counts { CountsTurn result (N.faults conn.old) (N.faults conn.new) }
@@ -55,7 +55,7 @@ pub(crate) fn send<N: Conn>(alloc: Global, conn: &mut N, to_head: bool, answer: 
 /// Answers what is no head, or no body.
 pub(crate) fn refuse<N: Conn>(alloc: Global, conn: &mut N, to_head: bool, input: BadInput) -> Turn
     requires not_closed { N.closed conn.old ≡ false }
-    ensures sent { (told : List ℕ) × Appends (N.written conn.old) (N.written conn.new) told × IsSent (refusal_answer to_head true (refusal_of input)) to_head result told }
+    ensures sent { (told : List ℕ) × Appends (N.written conn.old) (N.written conn.new) told × IsSent (refusal_answer to_head true (refusal_of input)) to_head result (N.faults conn.old) (N.faults conn.new) told }
     ensures remaining { N.remaining conn.new ≡ N.remaining conn.old }
     ensures closed { N.closed conn.new ≡ N.closed conn.old }
     ensures counts { CountsTurn result (N.faults conn.old) (N.faults conn.new) }
@@ -70,7 +70,7 @@ pub(crate) fn refuse<N: Conn>(alloc: Global, conn: &mut N, to_head: bool, input:
 pub(crate) fn want<N: Conn>(alloc: Global, conn: &mut N, to_head: bool) -> Turn
     requires not_closed { N.closed conn.old ≡ false }
     ensures over { result ≡ Turn.Over ConnEnd.NoMemory }
-    ensures told { (front : List ℕ) × Appends (N.written conn.old) (N.written conn.new) front × IsFront front (response_bytes (wanting_answer to_head)) }
+    ensures told { (front : List ℕ) × Appends (N.written conn.old) (N.written conn.new) front × IsFront (N.faults conn.old) (N.faults conn.new) front (response_bytes (wanting_answer to_head)) }
     ensures remaining { N.remaining conn.new ≡ N.remaining conn.old }
     ensures closed { N.closed conn.new ≡ N.closed conn.old }
     ensures never_falls { N.faults conn.old ≤ N.faults conn.new }

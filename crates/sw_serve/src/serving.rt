@@ -23,7 +23,7 @@ pub fn serve_connection<N: Conn, L: Draw>(
 ) -> ConnEnd
     requires cluster { (of : ClusterModel) → L.cluster link.old ≡ Some of → cluster.now ≡ of }
     requires not_closed { N.closed conn.old ≡ false }
-    ensures serves { Serves (record { draws = L.draws; calls = L.calls; losses = L.losses; refusals = L.refusals; learnt = L.learnt; may_be_silent = L.may_be_silent }) cluster.now (N.remaining conn.old) (N.remaining conn.new) (N.written conn.old) (N.written conn.new) link.old result link.new }
+    ensures serves { Serves (record { draws = L.draws; calls = L.calls; losses = L.losses; refusals = L.refusals; learnt = L.learnt; may_be_silent = L.may_be_silent }) cluster.now (N.remaining conn.old) (N.remaining conn.new) (N.written conn.old) (N.written conn.new) (N.faults conn.old) (N.faults conn.new) link.old result link.new }
     ensures counts { CountsEnd result (N.faults conn.old) (N.faults conn.new) }
     ensures closed { N.closed conn.new ≡ true }
     ensures tells { StillTells (L.may_be_silent link.new) (L.learnt link.old) (L.learnt link.new) }
@@ -44,7 +44,7 @@ fn serve_all<N: Conn, L: Draw>(
 ) -> ConnEnd
     requires cluster { (of : ClusterModel) → L.cluster link.old ≡ Some of → cluster.now ≡ of }
     requires not_closed { N.closed conn.old ≡ false }
-    ensures serves { Serves (record { draws = L.draws; calls = L.calls; losses = L.losses; refusals = L.refusals; learnt = L.learnt; may_be_silent = L.may_be_silent }) cluster.now (N.remaining conn.old) (N.remaining conn.new) (N.written conn.old) (N.written conn.new) link.old result link.new }
+    ensures serves { Serves (record { draws = L.draws; calls = L.calls; losses = L.losses; refusals = L.refusals; learnt = L.learnt; may_be_silent = L.may_be_silent }) cluster.now (N.remaining conn.old) (N.remaining conn.new) (N.written conn.old) (N.written conn.new) (N.faults conn.old) (N.faults conn.new) link.old result link.new }
     ensures counts { CountsEnd result (N.faults conn.old) (N.faults conn.new) }
     ensures closed { N.closed conn.new ≡ N.closed conn.old }
     ensures tells { StillTells (L.may_be_silent link.new) (L.learnt link.old) (L.learnt link.new) }

@@ -49,7 +49,7 @@ module _ {N L : Type 0} (conns : ConnMembers N) (ways : Ways L) (cluster : Clust
   pub record IsServed (visit : Visit N) (before after : L) : Type 0 where
     pub fresh : IsFresh conns visit.came
     pub end : ConnEnd
-    pub serves : Serves ways cluster (conns.remaining visit.came) (conns.remaining visit.went) (conns.written visit.came) (conns.written visit.went) before end after
+    pub serves : Serves ways cluster (conns.remaining visit.came) (conns.remaining visit.went) (conns.written visit.came) (conns.written visit.went) (conns.faults visit.came) (conns.faults visit.went) before end after
     pub counts : CountsEnd end (conns.faults visit.came) (conns.faults visit.went)
     pub closed : conns.closed visit.went ≡ true
 
