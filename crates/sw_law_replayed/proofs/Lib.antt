@@ -1,0 +1,4 @@
+pub mod Forms
+pub mod Handling
+pub mod Mounting
+pub mod Told
