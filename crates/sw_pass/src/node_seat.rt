@@ -92,10 +92,11 @@ impl<C: OfCluster> NodeSeat<C> {
         Note::of(table.table.shared.split_seat::<AsNote>(&mut self.seat))
     }
 
-    /// Takes in what a note knows.
+    /// Takes in what a note knows. Its own history has at most two events for each note that it took in before, and one.
     pub fn join(&mut self, table: &StampTable<C>, note: Note<C>)
         requires table { (self.old.table ≡ table.now) × (note.table ≡ table.now) }
         ensures table { (self.new.table ≡ self.old.table) × (self.new.slot ≡ self.old.slot) }
+        ensures node { IsNode self.old.slot self.old.known }
         ensures known { RestOf self.new.known (learned (joined self.old.known note.known)) }
         ensures learnt { self.new.known.crowded ≡ false → Knows C.cluster (joined self.old.known note.known) }
     {
