@@ -12,6 +12,9 @@ mod turn;
 pub use crate::end::ConnEnd;
 pub use crate::laws::asked_law;
 pub use crate::serving::serve_connection;
+pub use sw_local::LocalLink;
 
+#[cfg(test)]
+mod over_cells;
 #[cfg(test)]
 mod tests;

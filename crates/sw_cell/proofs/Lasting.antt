@@ -1,0 +1,43 @@
+-- What a seat knows goes on growing: what it covered it covers still, and what it has learnt at last it has learnt since the beginning.
+use Rattle.std.proofs.Common.{◌≡◌, false, ◌∙◌, arith}
+use Rattle.sw_ring.specs.Cluster.{ClusterModel}
+use Rattle.sw_pass.specs.Known.{Covers, history}
+use Rattle.sw_pass.specs.Steps.{old_of}
+use Rattle.sw_pass.specs.declared.known.Known.{Known}
+use Rattle.sw_pass.specs.declared.known.Old.{Old}
+use Rattle.sw_pass.proofs.Histories.{continues_more}
+use Rattle.sw_cell.specs.Learning.{HasGrown, HasLearnt}
+
+-- what one covers, a later one that covers it covers too
+pub covers_still : (old : Old) (between after : Known) → Covers between old → Covers after (old_of between) → Covers after old
+covers_still old between after first second = record {
+  drawn = λ fact has. second.drawn fact (first.drawn fact has);
+  histories = λ slot. continues_more (history after.histories slot) (history between.histories slot) (history old.histories slot) (second.histories slot) (first.histories slot);
+}
+
+module _ (before between after : Known) (first : HasGrown before between) where
+  -- what has grown twice has grown
+  pub grown_twice : HasGrown between after → HasGrown before after
+  grown_twice second = record {
+    few = first.few;
+    covers = covers_still (old_of before) between after first.covers second.covers;
+    mark = omega (arith, first.mark, second.mark);
+    clock = second.clock ∙ first.clock;
+    draws = second.draws ∙ first.draws;
+  }
+
+  -- and what it has learnt at last it has learnt
+  pub learnt_since : (cluster : ClusterModel) → HasLearnt cluster between after → HasLearnt cluster before after
+  learnt_since cluster second = record { grown = grown_twice second.grown; sound = second.sound; agree = second.agree }
+
+-- Where a seat told a pass what it knew, the pass covers that still once it has grown.
+pub told_still : (old : Old) (told after : Known) → (told.crowded ≡ false → Covers told old) → (after.crowded ≡ false → HasGrown told after) → after.crowded ≡ false → Covers after old
+told_still old told after covers grown few = covers_still old told after (covers (grown few).few) (grown few).covers
+
+-- What a pass has learnt once a seat told it something, it took in more of others, and it took in what the seat did at last.
+pub learnt_last : (cluster : ClusterModel) (before told between after : Known) → (told.crowded ≡ false → HasLearnt cluster before told) → (between.crowded ≡ false → HasGrown told between) → (after.crowded ≡ false → HasLearnt cluster between after)
+    → after.crowded ≡ false → HasLearnt cluster before after
+learnt_last cluster before told between after first second third few =
+    let last = third few in
+    let others = second last.grown.few in
+    learnt_since before between after (grown_twice before told between (first others.few).grown others) cluster last

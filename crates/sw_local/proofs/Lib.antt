@@ -1,0 +1,6 @@
+pub mod Drawing
+pub mod Firsts
+pub mod Hearing
+pub mod Looking
+pub mod Starting
+pub mod Telling
