@@ -41,8 +41,8 @@ pub record HasAdded (slot : ℕ) (before after : Known) : Type 0 where
   pub others : (other : ℕ) → other ≢ slot → history after.histories other ≡ history before.histories other
 
 -- the count of faults of a disk rose by one where the reply tells of a failure, and nowhere else
-abbrev pub CountsFault : Reply → (before after : ℕ) → Type 0
-CountsFault reply before after = (reply ≡ DiskFault → after ≡ one_more before) × (reply ≢ DiskFault → after ≡ before)
+abbrev pub CountsReply : Reply → (before after : ℕ) → Type 0
+CountsReply reply before after = (reply ≡ DiskFault → after ≡ one_more before) × (reply ≢ DiskFault → after ≡ before)
 
 -- likewise at a mount
 abbrev pub CountsMount : Option MountFault → (before after : ℕ) → Type 0

@@ -1,6 +1,6 @@
 //! What stands behind the lock of a device.
 
-ghost use Rattle.std.specs.Prelude.{◌≡◌, ◌≤◌, ◌*◌, ℕ, IfErr, IfOk, OnErr, OnOk, false, true, None, Some, length};
+ghost use Rattle.std.specs.Prelude.{◌≡◌, ◌≤◌, ◌*◌, ◌∷◌, ℕ, IfErr, IfOk, OnErr, OnOk, false, true, None, Some, length};
 ghost use Rattle.sw_message.specs.Message.{IsPlaceOf, place_in};
 ghost use Rattle.sw_disk.specs.Runs.{IfTold};
 ghost use Rattle.sw_objsrv.specs.Mounting.{Mounts, fault_of};
@@ -11,7 +11,7 @@ ghost use Rattle.sw_view.specs.declared.event.Event.TheVariants.{Replaced};
 ghost use Rattle.sw_pass.specs.Known.{Covers, HasSlot, history};
 ghost use Rattle.sw_pass.specs.Steps.{MayAdvance, advanced, old_of};
 ghost use Rattle.sw_cell.specs.Calling.{HasReplied, IsCalled, MayCall, event_of, mount_event, remounted_events, replied_events, shown};
-ghost use Rattle.sw_cell.specs.Handling.{CountsFault, CountsMount, HasAdded, MayHandle, MayReply};
+ghost use Rattle.sw_cell.specs.Handling.{CountsReply, CountsMount, HasAdded, MayHandle, MayReply};
 ghost use Rattle.sw_cell.specs.Learning.{HasLearnt};
 ghost use Rattle.sw_cell.specs.Locked.{AreCounted};
 ghost use Rattle.sw_cell.specs.Standing.{IsDiskOf, IsReplaced};
@@ -126,6 +126,8 @@ impl<D: Disk, C: OfCluster, J: Site> Locked<D, C, J> {
         ensures table { pass.new.table ≡ pass.old.table }
         ensures lost { IfOk result (λ lost. lost ≡ self.old.node.disk) }
         ensures replaced { IfOk result (λ lost. pass.new.known.crowded ≡ false → IsReplaced C.cluster D.seen device self.old.slot pass.old.known pass.new.known lost) }
+        ensures added { IfOk result (λ lost. (loss : ℕ) × (history self.new.known.histories self.old.slot ≡ Replaced loss ∷ history self.old.known.histories self.old.slot)) }
+        ensures quiet { OnOk result ((D.seen self.new.node.disk).faults ≡ (D.seen disk).faults) }
         ensures same { OnErr result ((self.new ≡ self.old) × (pass.new ≡ pass.old)) }
         ensures refused { IfErr result (λ refused. Mounts D.seen D.left_since C.cluster device (Some refused.1) disk refused.0) }
     {
@@ -169,7 +171,7 @@ impl<D: Disk, C: OfCluster, J: Site> Locked<D, C, J> {
         ensures table { pass.new.table ≡ pass.old.table }
         ensures called { pass.new.known.crowded ≡ false → IsCalled C.cluster D.tells self.old.slot msg.now result pass.old.known pass.new.known }
         ensures replied { HasReplied D.tells self.old.is_due msg.now result (history self.old.known.histories self.old.slot) (history self.new.known.histories self.old.slot) }
-        ensures counts { CountsFault result (D.seen self.old.node.disk).faults (D.seen self.new.node.disk).faults }
+        ensures counts { CountsReply result (D.seen self.old.node.disk).faults (D.seen self.new.node.disk).faults }
     {
         let warrant = pass.note(table);
         self.seat.join(table, warrant);
@@ -193,7 +195,7 @@ impl<D: Disk, C: OfCluster, J: Site> Locked<D, C, J> {
         ensures slot { (self.new.slot ≡ self.old.slot) × (self.new.node.device ≡ self.old.node.device) }
         ensures added { HasAdded self.old.slot self.old.known self.new.known }
         ensures replied { HasReplied D.tells self.old.is_due msg.now result (history self.old.known.histories self.old.slot) (history self.new.known.histories self.old.slot) }
-        ensures counts { CountsFault result (D.seen self.old.node.disk).faults (D.seen self.new.node.disk).faults }
+        ensures counts { CountsReply result (D.seen self.old.node.disk).faults (D.seen self.new.node.disk).faults }
     {
         if self.is_due {
             match self.remount(alloc, cluster, table, msg) {
@@ -262,7 +264,7 @@ impl<D: Disk, C: OfCluster, J: Site> Locked<D, C, J> {
         ensures slot { (self.new.slot ≡ self.old.slot) × (self.new.node.device ≡ self.old.node.device) }
         ensures added { HasAdded self.old.slot self.old.known self.new.known }
         ensures events { history self.new.known.histories self.old.slot ≡ replied_events D.tells msg.now result (history self.old.known.histories self.old.slot) }
-        ensures counts { CountsFault result (D.seen self.old.node.disk).faults (D.seen self.new.node.disk).faults }
+        ensures counts { CountsReply result (D.seen self.old.node.disk).faults (D.seen self.new.node.disk).faults }
     {
         let reply = self.node.handle(alloc, cluster, msg);
         self.is_due = matches!(reply, Reply::DiskFault);

@@ -57,15 +57,15 @@ pub record WasCalled {T : Type 0} (cluster : ClusterModel) (tells : Bool) (befor
   pub called : after.known.crowded ≡ false → IsCalled cluster tells (slot_of cluster device) msg reply before.known after.known
   pub after_is : after ≡ record before { known = after.known; calls = one_more before.calls }
 
--- The call is among them: no device was called.
-pub record WasLost {T : Type 0} (cluster : ClusterModel) (before : LocalModel T) (device : ℕ) (after : LocalModel T) : Type 0 where
+-- The call is among them: the pass knows no more than before.
+pub record WasNotCalled {T : Type 0} (cluster : ClusterModel) (before : LocalModel T) (device : ℕ) (after : LocalModel T) : Type 0 where
   pub member : IsMember cluster device
   pub lost : Contains before.lost (one_more before.calls)
   pub after_is : after ≡ record before { calls = one_more before.calls; losses = one_more before.losses }
 
 abbrev pub Calls : {T : Type 0} → ClusterModel → (tells : Bool) → LocalModel T → (device : ℕ) → Msg → Option Reply → LocalModel T → Type 0
 Calls cluster tells before device msg (Some reply) after = WasCalled cluster tells before device msg reply after
-Calls cluster tells before device msg None after = WasLost cluster before device after
+Calls cluster tells before device msg None after = WasNotCalled cluster before device after
 
 -- ---- draws
 

@@ -2,11 +2,9 @@
 use Rattle.std.proofs.Common.{◌≡◌, ◌≤◌, ◌<◌, ◌+◌, ◌||◌, ℕ, Bool, true, false, List, [], ◌∷◌, ◌++◌, length, Option, refl, sym, ap, subst, inl, inr, ◌∙◌, append-nil, arith}
 use Rattle.std.specs.Io.KnownBytes.{Appends, Consumes}
 use Rattle.std.proofs.KnownBytes.{Appends-nil, Appends-trans, Consumes-nil, Consumes-trans}
-use Rattle.sw_ring.specs.Cluster.{ClusterModel}
 use Rattle.sw_httpwrite.specs.Answer.{AnswerModel}
-use Rattle.sw_front.specs.Answering.{Ways}
 use Rattle.sw_serve.specs.Asks.{Asked, IsAsked, Refused, Whole}
-use Rattle.sw_serve.specs.Serving.{AreServed, Exchange, GoOn, IsCutOff, IsEnd, Replies, Serves, closing_at, exchange_bytes, greatest_answers, written_of}
+use Rattle.sw_serve.specs.Serving.{Answering, AreServed, Exchange, GoOn, IsCutOff, IsEnd, Replies, Serves, closing_at, exchange_bytes, greatest_answers, written_of}
 use Rattle.sw_serve.specs.Turns.{IsTurn, TakesTurn}
 use Rattle.sw_serve.specs.declared.end.ConnEnd.{ConnEnd}
 use Rattle.sw_serve.specs.declared.end.ConnEnd.TheVariants as end
@@ -17,8 +15,8 @@ either_true : (b : Bool) → (b || true) ≡ true
 either_true true = refl
 either_true false = refl
 
-module _ {L : Type 0} (ways : Ways L) (cluster : ClusterModel) where
-  served_more : (more bytes : List ℕ) (exchanges : List Exchange) (before after : L) (rest : List ℕ) → AreServed ways cluster bytes exchanges before after rest → AreServed ways cluster (bytes ++ more) exchanges before after (rest ++ more)
+module _ {L : Type 0} (answers : Answering L) where
+  served_more : (more bytes : List ℕ) (exchanges : List Exchange) (before after : L) (rest : List ℕ) → AreServed answers bytes exchanges before after rest → AreServed answers (bytes ++ more) exchanges before after (rest ++ more)
   served_more more bytes [] before after rest served = (served.0, ap (λ (b : List ℕ). b ++ more) served.1)
   served_more more bytes (one ∷ earlier) before after rest served = (
     served.0,
@@ -35,7 +33,7 @@ module _ {L : Type 0} (ways : Ways L) (cluster : ClusterModel) where
     pub consumed : Consumes left left' got
     pub exchanges : List Exchange
     pub counted : length exchanges ≡ count
-    pub served : AreServed ways cluster got exchanges before after unused
+    pub served : AreServed answers got exchanges before after unused
     pub go_on : GoOn exchanges
     pub writes : Appends written written' (written_of exchanges)
 
@@ -52,7 +50,7 @@ module _ {L : Type 0} (ways : Ways L) (cluster : ClusterModel) where
 
   -- the last answer of a connection closes it
   closes_last : (number : ℕ) (bytes : List ℕ) (asked : Asked) (waits : Bool) (unused : List ℕ) (before after : L) (answer : AnswerModel) → number ≡ greatest_answers → IsAsked bytes asked waits unused
-      → Replies ways cluster number asked before answer after → answer.close ≡ true
+      → Replies answers number asked before answer after → answer.close ≡ true
   closes_last number bytes (Whole request) waits unused before after answer last is replies =
       ap (λ (a : AnswerModel). a.close) (replies.2 ∙ ap (λ (n : ℕ). closing_at n replies.0) last) ∙ either_true replies.0.close
   closes_last number bytes (Refused given) waits unused before after answer last is replies = ap (λ (a : AnswerModel). a.close) replies.0 ∙ refused_closes bytes given waits unused is
@@ -60,7 +58,7 @@ module _ {L : Type 0} (ways : Ways L) (cluster : ClusterModel) where
   closed_and_open : (a : Bool) → a ≡ true → a ≡ false → ⊥
   closed_and_open a first second = absurd (cc)
 
-  never_behind : (got : List ℕ) (exchanges : List Exchange) (before after : L) (unused : List ℕ) → length exchanges ≡ greatest_answers → AreServed ways cluster got exchanges before after unused → GoOn exchanges → ⊥
+  never_behind : (got : List ℕ) (exchanges : List Exchange) (before after : L) (unused : List ℕ) → length exchanges ≡ greatest_answers → AreServed answers got exchanges before after unused → GoOn exchanges → ⊥
   never_behind got [] before after unused counted served go = absurd (omega (arith, counted))
   never_behind got (one ∷ earlier) before after unused counted served go =
       closed_and_open one.answer.close (closes_last (length earlier + 1) served.1 one.asked one.waits unused served.0 after one.answer (omega (arith, counted)) served.4 served.5) go
@@ -71,21 +69,21 @@ module _ {L : Type 0} (ways : Ways L) (cluster : ClusterModel) where
 
   module _ (count : ℕ) (left middle left' written between written' : Option (List ℕ)) (faults faults' : ℕ) (unused unused' : List ℕ) (before link after : L) (h : HasServed count left middle written between unused before link) where
     -- what was asked next was answered
-    module _ (closes : Bool) (t : TakesTurn ways cluster (count + 1) middle left' between written' faults faults' unused unused' link after (Answered closes)) where
+    module _ (closes : Bool) (t : TakesTurn answers (count + 1) middle left' between written' faults faults' unused unused' link after (Answered closes)) where
       abbrev next : Exchange
       next = t.is.0
 
       number_is : count + 1 ≡ length h.exchanges + 1
       number_is = ap (λ (n : ℕ). n + 1) (sym h.counted)
 
-      served_next : AreServed ways cluster (h.got ++ t.got) (next ∷ h.exchanges) before after unused'
+      served_next : AreServed answers (h.got ++ t.got) (next ∷ h.exchanges) before after unused'
       served_next = (
         link,
         unused ++ t.got,
         served_more t.got h.got h.exchanges before link unused h.served,
         h.go_on,
         t.is.1,
-        subst (λ (n : ℕ). Replies ways cluster n next.asked link next.answer after) number_is t.is.2,
+        subst (λ (n : ℕ). Replies answers n next.asked link next.answer after) number_is t.is.2,
       )
 
       consumed_next : Consumes left left' (h.got ++ t.got)
@@ -105,7 +103,7 @@ module _ {L : Type 0} (ways : Ways L) (cluster : ClusterModel) where
         writes = written_next;
       }
 
-      pub closed : closes ≡ true → count < greatest_answers → Serves ways cluster left left' written written' faults faults' before end.Closed after
+      pub closed : closes ≡ true → count < greatest_answers → Serves answers left left' written written' faults faults' before end.Closed after
       closed is few = record {
         got = h.got ++ t.got;
         consumed = consumed_next;
@@ -120,15 +118,15 @@ module _ {L : Type 0} (ways : Ways L) (cluster : ClusterModel) where
       }
 
     -- it ended
-    ends_so : (result : ConnEnd) (bytes told : List ℕ) (exchanges : List Exchange) → GoOn exchanges → length exchanges ≡ count → IsTurn ways cluster (count + 1) bytes left' link after unused' (Over result) faults faults' told → IsEnd ways cluster result bytes left' exchanges link after faults faults' told
+    ends_so : (result : ConnEnd) (bytes told : List ℕ) (exchanges : List Exchange) → GoOn exchanges → length exchanges ≡ count → IsTurn answers (count + 1) bytes left' link after unused' (Over result) faults faults' told → IsEnd answers result bytes left' exchanges link after faults faults' told
     ends_so end.Closed bytes told [] go counted is = is
     ends_so end.Closed bytes told (last ∷ earlier) go counted is = (is.0, is.1, inr (go, is.2, is.3))
     ends_so end.Cut bytes told exchanges go counted is = (go, is.0, is.1)
     ends_so end.ReadFault bytes told exchanges go counted is = (go, is.0, is.1)
-    ends_so end.WriteFault bytes told exchanges go counted is = (go, subst (λ (n : ℕ). IsCutOff ways cluster bytes (n + 1) link after told) (sym counted) is)
+    ends_so end.WriteFault bytes told exchanges go counted is = (go, subst (λ (n : ℕ). IsCutOff answers bytes (n + 1) link after told) (sym counted) is)
     ends_so end.NoMemory bytes told exchanges go counted is = (go, is)
 
-    pub over : (result : ConnEnd) → TakesTurn ways cluster (count + 1) middle left' between written' faults faults' unused unused' link after (Over result) → count < greatest_answers → Serves ways cluster left left' written written' faults faults' before result after
+    pub over : (result : ConnEnd) → TakesTurn answers (count + 1) middle left' between written' faults faults' unused unused' link after (Over result) → count < greatest_answers → Serves answers left left' written written' faults faults' before result after
     over result t few = record {
       got = h.got ++ t.got;
       consumed = Consumes-trans left middle left' h.got t.got h.consumed t.consumed;

@@ -3,7 +3,6 @@ use Rattle.std.proofs.Common.{◌≡◌, ℕ, Bool, true, false, List, [], ◌++
 use Rattle.std.proofs.Common.{append-nil}
 use Rattle.std.specs.Io.KnownBytes.{Appends, Consumes}
 use Rattle.std.proofs.KnownBytes.{Appends-nil, Appends-trans, Consumes-nil, Consumes-trans}
-use Rattle.sw_ring.specs.Cluster.{ClusterModel}
 use Rattle.sw_io.specs.Whole.{AppendsProperFront}
 use Rattle.sw_httpread.specs.Bodies.{ReadsBody}
 use Rattle.sw_httpread.specs.Heads.{IsHeadNext, ReadsHead}
@@ -23,9 +22,8 @@ use Rattle.sw_request.specs.Response.{IsVerdict, is_head, refusal_answer}
 use Rattle.sw_request.specs.declared.refusal.BadInput.{BadInput}
 use Rattle.sw_request.specs.declared.judging.Verdict.TheVariants.{Read, Refuse}
 use Rattle.sw_response.specs.Response.{wanting_answer}
-use Rattle.sw_front.specs.Answering.{Answers, Ways}
 use Rattle.sw_serve.specs.Asks.{Asked, BeginsWith, IsAsked, IsNoBody, IsNoHead, Refused, Whole}
-use Rattle.sw_serve.specs.Serving.{IsFront, IsOpen, IsToHead, Replies, Wants, closing_at, leave_bytes}
+use Rattle.sw_serve.specs.Serving.{Answering, IsFront, IsOpen, IsToHead, Replies, Wants, closing_at, leave_bytes}
 use Rattle.sw_serve.specs.Turns.{IsSent, IsTurn, TakesBody, TakesHead, TakesRequest, TakesTurn}
 use Rattle.sw_serve.specs.declared.end.ConnEnd.TheVariants as end
 use Rattle.sw_serve.specs.declared.turn.Turn.{Turn}
@@ -38,14 +36,14 @@ leave_due bytes (Whole request) waits unused asked is = (request.head, asked.0, 
 leave_due bytes (Refused answer) waits unused (inl none) is = absurd (cc)
 leave_due bytes (Refused answer) waits unused (inr refused) is = (refused.0, refused.1, refused.2, subst (λ (b : Bool). BeginsWith bytes refused.0 refused.1 b refused.2) is refused.3)
 
-module _ {L : Type 0} (ways : Ways L) (cluster : ClusterModel) (number : ℕ) (before after : L) (faults faults' : ℕ) where
-  wants_of : (bytes : List ℕ) (asked : Asked) (waits : Bool) (unused : List ℕ) (answer : AnswerModel) → IsAsked bytes asked waits unused → Replies ways cluster number asked before answer after → Wants ways cluster bytes waits before after
+module _ {L : Type 0} (answers : Answering L) (number : ℕ) (before after : L) (faults faults' : ℕ) where
+  wants_of : (bytes : List ℕ) (asked : Asked) (waits : Bool) (unused : List ℕ) (answer : AnswerModel) → IsAsked bytes asked waits unused → Replies answers number asked before answer after → Wants answers bytes waits before after
   wants_of bytes (Whole request) waits unused answer asked replies = inr (request, unused, asked, Ok replies.0, replies.1)
   wants_of bytes (Refused given) waits unused answer asked replies = inl replies.1
 
   -- what was asked was answered, and the answer was sent, or a front of it
   pub sent_turn : (bytes : List ℕ) (asked : Asked) (waits : Bool) (unused : List ℕ) (left : Option (List ℕ)) (answer : AnswerModel) (to_head : Bool) (turn : Turn) (told : List ℕ) → IsAsked bytes asked waits unused
-      → Replies ways cluster number asked before answer after → IsSent answer to_head turn faults faults' told → IsToHead ways cluster bytes waits before after to_head → IsTurn ways cluster number bytes left before after unused turn faults faults' (leave_bytes waits ++ told)
+      → Replies answers number asked before answer after → IsSent answer to_head turn faults faults' told → IsToHead answers bytes waits before after to_head → IsTurn answers number bytes left before after unused turn faults faults' (leave_bytes waits ++ told)
   sent_turn bytes asked waits unused left answer to_head (Answered closes) told is replies sent of_head = (record { asked = asked; waits = waits; answer = answer }, is, replies, sent.0, ap (λ (t : List ℕ). leave_bytes waits ++ t) sent.1)
   sent_turn bytes asked waits unused left answer to_head (Over end.WriteFault) told is replies sent of_head = inr (record { asked = asked; waits = waits; answer = answer }, unused, is, replies, told, sent, refl)
   sent_turn bytes asked waits unused left answer to_head (Over end.NoMemory) told is replies sent of_head = record {
@@ -64,23 +62,23 @@ module _ {L : Type 0} (ways : Ways L) (cluster : ClusterModel) (number : ℕ) (b
 
   -- ---- a request
 
-  pub request_sent : (request : RequestModel) (left written written' : Option (List ℕ)) (given answer : AnswerModel) (to_head : Bool) (turn : Turn) → to_head ≡ is_head request.head → Answers ways cluster request before (Ok given) after → answer ≡ closing_at number given
-      → (told : List ℕ) × Appends written written' told × IsSent answer to_head turn faults faults' told → TakesRequest ways cluster number request left written written' faults faults' before after turn
-  request_sent request left written written' given answer to_head turn head_is answers is sent = record {
+  pub request_sent : (request : RequestModel) (left written written' : Option (List ℕ)) (given answer : AnswerModel) (to_head : Bool) (turn : Turn) → to_head ≡ is_head request.head → answers request before (Ok given) after → answer ≡ closing_at number given
+      → (told : List ℕ) × Appends written written' told × IsSent answer to_head turn faults faults' told → TakesRequest answers number request left written written' faults faults' before after turn
+  request_sent request left written written' given answer to_head turn head_is answered is sent = record {
     told = sent.0;
     writes = sent.1;
-    is = λ bytes waits unused asked. sent_turn bytes (Whole request) waits unused left answer to_head turn sent.0 asked (given, answers, is) sent.2 (inl (request.head, asked.1, asked.2.reads, head_is));
+    is = λ bytes waits unused asked. sent_turn bytes (Whole request) waits unused left answer to_head turn sent.0 asked (given, answered, is) sent.2 (inl (request.head, asked.1, asked.2.reads, head_is));
   }
 
-  pub request_wants : (request : RequestModel) (left written written' : Option (List ℕ)) (refused : Wanted) (to_head : Bool) (turn : Turn) → to_head ≡ is_head request.head → Answers ways cluster request before (Err refused) after → turn ≡ Over end.NoMemory
-      → (front : List ℕ) × Appends written written' front × IsFront faults faults' front (response_bytes (wanting_answer to_head)) → TakesRequest ways cluster number request left written written' faults faults' before after turn
-  request_wants request left written written' refused to_head turn head_is answers is told = record {
+  pub request_wants : (request : RequestModel) (left written written' : Option (List ℕ)) (refused : Wanted) (to_head : Bool) (turn : Turn) → to_head ≡ is_head request.head → answers request before (Err refused) after → turn ≡ Over end.NoMemory
+      → (front : List ℕ) × Appends written written' front × IsFront faults faults' front (response_bytes (wanting_answer to_head)) → TakesRequest answers number request left written written' faults faults' before after turn
+  request_wants request left written written' refused to_head turn head_is answered is told = record {
     told = told.0;
     writes = told.1;
-    is = λ bytes waits unused asked. subst (λ (t : Turn). IsTurn ways cluster number bytes left before after unused t faults faults' (leave_bytes waits ++ told.0)) (sym is) (record {
+    is = λ bytes waits unused asked. subst (λ (t : Turn). IsTurn answers number bytes left before after unused t faults faults' (leave_bytes waits ++ told.0)) (sym is) (record {
       waits = waits;
       due = leave_due bytes (Whole request) waits unused asked;
-      wants = inr (request, unused, asked, Err refused, answers);
+      wants = inr (request, unused, asked, Err refused, answered);
       to_head = to_head;
       is_to_head = inl (request.head, asked.1, asked.2.reads, head_is);
       front = told.0;
@@ -94,7 +92,7 @@ module _ {L : Type 0} (ways : Ways L) (cluster : ClusterModel) (number : ℕ) (b
   module _ (request : RequestHeadModel) (how : Framing) (left left' : Option (List ℕ)) (unused unused' : List ℕ) where
     -- it was read
     pub body_read : (content : List ℕ) (middle written written' : Option (List ℕ)) (turn : Turn) → ReadsBody how left left' unused unused' (body.Body content) → left' ≡ middle
-        → TakesRequest ways cluster number (record { head = request; body = content }) middle written written' faults faults' before after turn → TakesBody ways cluster number request how left middle written written' faults faults' unused unused' before after turn
+        → TakesRequest answers number (record { head = request; body = content }) middle written written' faults faults' before after turn → TakesBody answers number request how left middle written written' faults faults' unused unused' before after turn
     body_read content middle written written' turn reads same takes = record {
       got = reads.got;
       consumed = subst (λ (o : Option (List ℕ)). Consumes left o reads.got) same reads.consumed;
@@ -105,8 +103,8 @@ module _ {L : Type 0} (ways : Ways L) (cluster : ClusterModel) (number : ℕ) (b
 
     -- it is cut, or reading failed: nothing was written
     pub body_open : (no_head : HeadNext) (no_body : BodyNext) (turn : Turn) (written : Option (List ℕ))
-        → ((bytes told : List ℕ) → (after ≡ before) × IsOpen bytes left' no_head no_body told → IsTurn ways cluster number bytes left' before after unused' turn faults faults' told)
-        → ReadsBody how left left' unused unused' no_body → after ≡ before → TakesBody ways cluster number request how left left' written written faults faults' unused unused' before after turn
+        → ((bytes told : List ℕ) → (after ≡ before) × IsOpen bytes left' no_head no_body told → IsTurn answers number bytes left' before after unused' turn faults faults' told)
+        → ReadsBody how left left' unused unused' no_body → after ≡ before → TakesBody answers number request how left left' written written faults faults' unused unused' before after turn
     body_open no_head no_body turn written ends reads same = record {
       got = reads.got;
       consumed = reads.consumed;
@@ -118,7 +116,7 @@ module _ {L : Type 0} (ways : Ways L) (cluster : ClusterModel) (number : ℕ) (b
     -- it is none
     pub body_refused : (no_body : BodyNext) (why : BadInput) (to_head : Bool) (turn : Turn) (middle written written' : Option (List ℕ)) (reads : ReadsBody how left left' unused unused' no_body) → IsNoBody how (unused ++ reads.got) why unused'
         → to_head ≡ is_head request → left' ≡ middle → after ≡ before → (told : List ℕ) × Appends written written' told × IsSent (refusal_answer to_head true (refusal_of why)) to_head turn faults faults' told
-        → TakesBody ways cluster number request how left middle written written' faults faults' unused unused' before after turn
+        → TakesBody answers number request how left middle written written' faults faults' unused unused' before after turn
     body_refused no_body why to_head turn middle written written' reads none head_is kept same sent =
         let answer = refusal_answer to_head true (refusal_of why) in
         record {
@@ -134,13 +132,13 @@ module _ {L : Type 0} (ways : Ways L) (cluster : ClusterModel) (number : ℕ) (b
 
     -- memory was wanted
     pub body_wants : (no_body : BodyNext) (to_head : Bool) (turn : Turn) (middle written written' : Option (List ℕ)) → ReadsBody how left left' unused unused' no_body → to_head ≡ is_head request → left' ≡ middle → after ≡ before → turn ≡ Over end.NoMemory
-        → (front : List ℕ) × Appends written written' front × IsFront faults faults' front (response_bytes (wanting_answer to_head)) → TakesBody ways cluster number request how left middle written written' faults faults' unused unused' before after turn
+        → (front : List ℕ) × Appends written written' front × IsFront faults faults' front (response_bytes (wanting_answer to_head)) → TakesBody answers number request how left middle written written' faults faults' unused unused' before after turn
     body_wants no_body to_head turn middle written written' reads head_is kept same is told = record {
       got = reads.got;
       consumed = subst (λ (o : Option (List ℕ)). Consumes left o reads.got) kept reads.consumed;
       told = told.0;
       writes = told.1;
-      is = λ bytes waits begins. subst (λ (t : Turn). IsTurn ways cluster number bytes middle before after unused' t faults faults' (leave_bytes waits ++ told.0)) (sym is) (record {
+      is = λ bytes waits begins. subst (λ (t : Turn). IsTurn answers number bytes middle before after unused' t faults faults' (leave_bytes waits ++ told.0)) (sym is) (record {
         waits = waits;
         due = λ due. (request, how, unused ++ reads.got, subst (λ (b : Bool). BeginsWith bytes request how b (unused ++ reads.got)) due begins);
         wants = inl same;
@@ -157,8 +155,8 @@ module _ {L : Type 0} (ways : Ways L) (cluster : ClusterModel) (number : ℕ) (b
   module _ (request : RequestHeadModel) where
     -- it has no defect, and leave was given where it was due
     pub head_goes_on : (how : Framing) (waits : Bool) (left middle left' written between written' : Option (List ℕ)) (unused unused' : List ℕ) (turn : Turn) → IsVerdict request (Read how waits) → middle ≡ left
-        → Appends written between (leave_bytes waits) → TakesBody ways cluster number request how middle left' between written' faults faults' unused unused' before after turn
-        → TakesHead ways cluster number request left left' written written' faults faults' unused unused' before after turn
+        → Appends written between (leave_bytes waits) → TakesBody answers number request how middle left' between written' faults faults' unused unused' before after turn
+        → TakesHead answers number request left left' written written' faults faults' unused unused' before after turn
     head_goes_on how waits left middle left' written between written' unused unused' turn verdict kept leave takes = record {
       got = takes.got;
       consumed = subst (λ (o : Option (List ℕ)). Consumes o left' takes.got) kept takes.consumed;
@@ -176,7 +174,7 @@ module _ {L : Type 0} (ways : Ways L) (cluster : ClusterModel) (number : ℕ) (b
 
       -- it has a defect
       pub head_refused : (answer : AnswerModel) (to_head : Bool) (turn : Turn) → to_head ≡ is_head request → IsVerdict request (Refuse answer) → (told : List ℕ) × Appends written written' told × IsSent answer to_head turn faults faults' told
-          → TakesHead ways cluster number request left left' written written' faults faults' unused unused before after turn
+          → TakesHead answers number request left left' written written' faults faults' unused unused before after turn
       head_refused answer to_head turn head_is verdict sent = record {
         got = [];
         consumed = nothing_got;
@@ -189,7 +187,7 @@ module _ {L : Type 0} (ways : Ways L) (cluster : ClusterModel) (number : ℕ) (b
 
       -- leave could not be written
       pub head_cut_off : (how : Framing) (waits : Bool) → IsVerdict request (Read how waits) → waits ≡ true → AppendsProperFront written written' continue_bytes
-          → TakesHead ways cluster number request left left' written written' faults faults' unused unused before after (Over end.WriteFault)
+          → TakesHead answers number request left left' written written' faults faults' unused unused before after (Over end.WriteFault)
       head_cut_off how waits verdict due part = record {
         got = [];
         consumed = nothing_got;
@@ -201,13 +199,13 @@ module _ {L : Type 0} (ways : Ways L) (cluster : ClusterModel) (number : ℕ) (b
 
       -- memory was wanted
       pub head_wants : (to_head : Bool) (turn : Turn) → to_head ≡ is_head request → turn ≡ Over end.NoMemory → (front : List ℕ) × Appends written written' front × IsFront faults faults' front (response_bytes (wanting_answer to_head))
-          → TakesHead ways cluster number request left left' written written' faults faults' unused unused before after turn
+          → TakesHead answers number request left left' written written' faults faults' unused unused before after turn
       head_wants to_head turn head_is is told = record {
         got = [];
         consumed = nothing_got;
         told = told.0;
         writes = told.1;
-        is = λ bytes reads. subst (λ (t : Turn). IsTurn ways cluster number bytes left' before after unused t faults faults' told.0) (sym is) (record {
+        is = λ bytes reads. subst (λ (t : Turn). IsTurn answers number bytes left' before after unused t faults faults' told.0) (sym is) (record {
           waits = false;
           due = λ due. absurd (cc);
           wants = inl same;
@@ -222,7 +220,7 @@ module _ {L : Type 0} (ways : Ways L) (cluster : ClusterModel) (number : ℕ) (b
   -- ---- what comes next
 
   pub turn_head : (request : RequestHeadModel) (left middle left' written written' : Option (List ℕ)) (unused carried unused' : List ℕ) (turn : Turn) → ReadsHead left middle unused carried (head.Head request)
-      → TakesHead ways cluster number request middle left' written written' faults faults' carried unused' before after turn → TakesTurn ways cluster number left left' written written' faults faults' unused unused' before after turn
+      → TakesHead answers number request middle left' written written' faults faults' carried unused' before after turn → TakesTurn answers number left left' written written' faults faults' unused unused' before after turn
   turn_head request left middle left' written written' unused carried unused' turn reads takes =
       let more = head_more (unused ++ reads.got) takes.got carried middle None (head.Head request) tt reads.outcome in
       record {
@@ -236,8 +234,8 @@ module _ {L : Type 0} (ways : Ways L) (cluster : ClusterModel) (number : ℕ) (b
   module _ (left left' : Option (List ℕ)) (unused unused' : List ℕ) (same : after ≡ before) where
     -- it is cut, or reading failed: nothing was written
     pub turn_open : (no_head : HeadNext) (no_body : BodyNext) (turn : Turn) (written : Option (List ℕ))
-        → ((bytes told : List ℕ) → (after ≡ before) × IsOpen bytes left' no_head no_body told → IsTurn ways cluster number bytes left' before after unused' turn faults faults' told)
-        → ReadsHead left left' unused unused' no_head → TakesTurn ways cluster number left left' written written faults faults' unused unused' before after turn
+        → ((bytes told : List ℕ) → (after ≡ before) × IsOpen bytes left' no_head no_body told → IsTurn answers number bytes left' before after unused' turn faults faults' told)
+        → ReadsHead left left' unused unused' no_head → TakesTurn answers number left left' written written faults faults' unused unused' before after turn
     turn_open no_head no_body turn written ends reads = record {
       got = reads.got;
       consumed = reads.consumed;
@@ -247,7 +245,7 @@ module _ {L : Type 0} (ways : Ways L) (cluster : ClusterModel) (number : ℕ) (b
     }
 
     pub turn_refused : (no_head : HeadNext) (why : BadInput) (turn : Turn) (middle written written' : Option (List ℕ)) (reads : ReadsHead left left' unused unused' no_head) → IsNoHead (unused ++ reads.got) why unused' → left' ≡ middle
-        → (told : List ℕ) × Appends written written' told × IsSent (refusal_answer false true (refusal_of why)) false turn faults faults' told → TakesTurn ways cluster number left middle written written' faults faults' unused unused' before after turn
+        → (told : List ℕ) × Appends written written' told × IsSent (refusal_answer false true (refusal_of why)) false turn faults faults' told → TakesTurn answers number left middle written written' faults faults' unused unused' before after turn
     turn_refused no_head why turn middle written written' reads none kept sent =
         let answer = refusal_answer false true (refusal_of why) in
         record {
@@ -259,13 +257,13 @@ module _ {L : Type 0} (ways : Ways L) (cluster : ClusterModel) (number : ℕ) (b
         }
 
     pub turn_wants : (no_head : HeadNext) (turn : Turn) (middle written written' : Option (List ℕ)) → ReadsHead left left' unused unused' no_head → left' ≡ middle → turn ≡ Over end.NoMemory
-        → (front : List ℕ) × Appends written written' front × IsFront faults faults' front (response_bytes (wanting_answer false)) → TakesTurn ways cluster number left middle written written' faults faults' unused unused' before after turn
+        → (front : List ℕ) × Appends written written' front × IsFront faults faults' front (response_bytes (wanting_answer false)) → TakesTurn answers number left middle written written' faults faults' unused unused' before after turn
     turn_wants no_head turn middle written written' reads kept is told = record {
       got = reads.got;
       consumed = subst (λ (o : Option (List ℕ)). Consumes left o reads.got) kept reads.consumed;
       told = told.0;
       writes = told.1;
-      is = subst (λ (t : Turn). IsTurn ways cluster number (unused ++ reads.got) middle before after unused' t faults faults' told.0) (sym is) (record {
+      is = subst (λ (t : Turn). IsTurn answers number (unused ++ reads.got) middle before after unused' t faults faults' told.0) (sym is) (record {
         waits = false;
         due = λ due. absurd (cc);
         wants = inl same;

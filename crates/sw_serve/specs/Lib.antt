@@ -1,4 +1,5 @@
 pub mod Asks
 pub mod Ends
 pub mod Serving
+pub mod Soundly
 pub mod Turns

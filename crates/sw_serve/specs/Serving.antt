@@ -1,9 +1,8 @@
--- What is answered on a connection, over which ways, and how that ends.
+-- What is answered on a connection, and how that ends.
 use Rattle.std.specs.Prelude.{◌≡◌, ◌⊎◌, ◌==◌, ◌||◌, ◌<◌, ◌≤◌, ◌+◌, ℕ, Bool, true, false, if◌then◌else◌, List, [], ◌∷◌, ◌++◌, length, take, Option, None, Result, Ok, ⊤}
 use Rattle.std.specs.Io.KnownBytes.{Appends, Consumes}
 use Rattle.sw_types.specs.declared.memory.NoMemory.{NoMemory as Refusal}
 use Rattle.sw_words.specs.Counts.{one_more}
-use Rattle.sw_ring.specs.Cluster.{ClusterModel}
 use Rattle.sw_httpread.specs.Bodies.{IsBodyNext}
 use Rattle.sw_httpread.specs.Heads.{IsHeadNext}
 use Rattle.sw_httpread.specs.Request.{RequestHeadModel}
@@ -17,7 +16,6 @@ use Rattle.sw_httpwrite.specs.Response.{continue_bytes, response_bytes}
 use Rattle.sw_request.specs.Body.{RequestModel}
 use Rattle.sw_request.specs.Response.{is_head}
 use Rattle.sw_response.specs.Response.{wanting_answer}
-use Rattle.sw_front.specs.Answering.{Answers, Ways}
 use Rattle.sw_serve.specs.Asks.{Asked, BeginsWith, IsAsked, Refused, Whole}
 use Rattle.sw_serve.specs.declared.end.ConnEnd.{ConnEnd}
 use Rattle.sw_serve.specs.declared.end.ConnEnd.TheVariants as end
@@ -38,6 +36,10 @@ pub record Exchange : Type 0 where
   pub waits : Bool
   pub answer : AnswerModel
 
+-- how a request may be answered over a link, and what that leaves
+abbrev pub Answering : Type 0 → Type 1
+Answering L = RequestModel → (before : L) → Result AnswerModel Refusal → (after : L) → Type 0
+
 -- leave to send a body, where the client waits for it
 abbrev pub leave_bytes : (waits : Bool) → List ℕ
 leave_bytes waits = if waits then continue_bytes else []
@@ -55,10 +57,10 @@ abbrev pub GoOn : List Exchange → Type 0
 GoOn [] = ⊤
 GoOn (one ∷ earlier) = one.answer.close ≡ false
 
-module _ {L : Type 0} (ways : Ways L) (cluster : ClusterModel) where
+module _ {L : Type 0} (answers : Answering L) where
   -- the answer to what was asked, the number-th of a connection, and what the link did for it
   abbrev pub Replies : (number : ℕ) → Asked → (before : L) → AnswerModel → (after : L) → Type 0
-  Replies number (Whole request) before answer after = (given : AnswerModel) × Answers ways cluster request before (Ok given) after × (answer ≡ closing_at number given)
+  Replies number (Whole request) before answer after = (given : AnswerModel) × answers request before (Ok given) after × (answer ≡ closing_at number given)
   Replies number (Refused given) before answer after = (answer ≡ given) × (after ≡ before)
 
   -- The bytes begin with what was asked in some exchanges, the newest of them first; each was answered over the link, one behind the other.
@@ -85,18 +87,18 @@ abbrev pub IsFront : (faults faults' : ℕ) → List ℕ → List ℕ → Type 0
 IsFront faults faults' front whole =
     ((faults' ≡ faults) × ((front ≡ whole) ⊎ (front ≡ []))) ⊎ ((faults' ≡ one_more faults) × IsProperFront front whole)
 
-module _ {L : Type 0} (ways : Ways L) (cluster : ClusterModel) where
+module _ {L : Type 0} (answers : Answering L) where
   -- leave was to be written, or the answer to what was asked behind it, and not all of it was
   abbrev pub IsCutOff : List ℕ → (number : ℕ) → (before after : L) → (written : List ℕ) → Type 0
   IsCutOff bytes number before after written =
       ((request : RequestHeadModel) × (how : Framing) × (middle : List ℕ) × BeginsWith bytes request how true middle × (after ≡ before) × IsProperFront written continue_bytes)
-      ⊎ ((one : Exchange) × (unused : List ℕ) × IsAsked bytes one.asked one.waits unused × Replies ways cluster number one.asked before one.answer after
+      ⊎ ((one : Exchange) × (unused : List ℕ) × IsAsked bytes one.asked one.waits unused × Replies answers number one.asked before one.answer after
       × (front : List ℕ) × IsProperFront front (response_bytes one.answer) × (written ≡ leave_bytes one.waits ++ front))
 
   -- what the link did for the request for which memory was wanted: nothing, or what an operation did as far as it went, or to its end
   abbrev pub Wants : List ℕ → (waits : Bool) → (before after : L) → Type 0
   Wants bytes waits before after =
-      (after ≡ before) ⊎ ((request : RequestModel) × (unused : List ℕ) × IsAsked bytes (Whole request) waits unused × (result : Result AnswerModel Refusal) × Answers ways cluster request before result after)
+      (after ≡ before) ⊎ ((request : RequestModel) × (unused : List ℕ) × IsAsked bytes (Whole request) waits unused × (result : Result AnswerModel Refusal) × answers request before result after)
 
   -- whether the request for which memory was wanted is a HEAD, where its head was read
   abbrev pub IsToHead : List ℕ → (waits : Bool) → (before after : L) → (to_head : Bool) → Type 0
@@ -134,7 +136,7 @@ module _ {L : Type 0} (ways : Ways L) (cluster : ClusterModel) where
     pub few : length exchanges ≤ greatest_answers
     pub rest : List ℕ
     pub between : L
-    pub served : AreServed ways cluster got exchanges before between rest
+    pub served : AreServed answers got exchanges before between rest
     pub behind : List ℕ
     pub ends : IsEnd result rest left' exchanges between after faults faults' behind
     pub writes : Appends written written' (written_of exchanges ++ behind)

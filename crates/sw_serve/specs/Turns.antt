@@ -2,7 +2,6 @@
 use Rattle.std.specs.Prelude.{◌≡◌, ◌⊎◌, ◌≤◌, ℕ, Bool, List, [], ◌++◌, Option, None, ⊤}
 use Rattle.std.specs.Io.KnownBytes.{Appends, Consumes}
 use Rattle.sw_words.specs.Counts.{Rose, one_more}
-use Rattle.sw_ring.specs.Cluster.{ClusterModel}
 use Rattle.sw_httpread.specs.Heads.{IsHeadNext}
 use Rattle.sw_httpread.specs.Request.{RequestHeadModel}
 use Rattle.sw_httpread.specs.declared.body.BodyNext.TheVariants as body
@@ -12,9 +11,8 @@ use Rattle.sw_httpwrite.specs.Answer.{AnswerModel}
 use Rattle.sw_httpwrite.specs.Response.{response_bytes}
 use Rattle.sw_request.specs.Body.{RequestModel}
 use Rattle.sw_response.specs.Response.{wanting_answer}
-use Rattle.sw_front.specs.Answering.{Ways}
 use Rattle.sw_serve.specs.Asks.{BeginsWith, IsAsked, Whole}
-use Rattle.sw_serve.specs.Serving.{Exchange, IsCutOff, IsFront, IsOpen, IsProperFront, IsWanting, Replies, exchange_bytes, leave_bytes}
+use Rattle.sw_serve.specs.Serving.{Answering, Exchange, IsCutOff, IsFront, IsOpen, IsProperFront, IsWanting, Replies, exchange_bytes, leave_bytes}
 use Rattle.sw_serve.specs.declared.end.ConnEnd.TheVariants as end
 use Rattle.sw_serve.specs.declared.turn.Turn.{Turn}
 use Rattle.sw_serve.specs.declared.turn.Turn.TheVariants.{Answered, Over}
@@ -51,16 +49,16 @@ pub record CountsTurn (turn : Turn) (before after : ℕ) : Type 0 where
 
 -- ---- turns
 
-module _ {L : Type 0} (ways : Ways L) (cluster : ClusterModel) where
+module _ {L : Type 0} (answers : Answering L) where
   -- what is left of the bytes, and what was written
   abbrev pub IsTurn : (number : ℕ) → (had : List ℕ) → (left : Option (List ℕ)) → (before after : L) → (rest : List ℕ) → Turn → (faults faults' : ℕ) → (written : List ℕ) → Type 0
   IsTurn number had left before after rest (Answered closes) faults faults' written =
-      (one : Exchange) × IsAsked had one.asked one.waits rest × Replies ways cluster number one.asked before one.answer after × (closes ≡ one.answer.close) × (written ≡ exchange_bytes one)
+      (one : Exchange) × IsAsked had one.asked one.waits rest × Replies answers number one.asked before one.answer after × (closes ≡ one.answer.close) × (written ≡ exchange_bytes one)
   IsTurn number had left before after rest (Over end.Closed) faults faults' written = (after ≡ before) × (written ≡ []) × (unused : List ℕ) × IsHeadNext had left head.End unused
   IsTurn number had left before after rest (Over end.Cut) faults faults' written = (after ≡ before) × IsOpen had left head.Cut body.Cut written
   IsTurn number had left before after rest (Over end.ReadFault) faults faults' written = (after ≡ before) × IsOpen had left head.ReadFault body.ReadFault written
-  IsTurn number had left before after rest (Over end.WriteFault) faults faults' written = IsCutOff ways cluster had number before after written
-  IsTurn number had left before after rest (Over end.NoMemory) faults faults' written = IsWanting ways cluster had before after faults faults' written
+  IsTurn number had left before after rest (Over end.WriteFault) faults faults' written = IsCutOff answers had number before after written
+  IsTurn number had left before after rest (Over end.NoMemory) faults faults' written = IsWanting answers had before after faults faults' written
 
   -- A turn of a connection with some unused bytes, from its beginning on.
   pub record TakesTurn (number : ℕ) (left left' written written' : Option (List ℕ)) (faults faults' : ℕ) (unused unused' : List ℕ) (before after : L) (turn : Turn) : Type 0 where

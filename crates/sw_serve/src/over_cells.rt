@@ -10,7 +10,7 @@ ghost use Rattle.sw_law_replayed.specs.Keeping.{IsEmptyFor};
 ghost use Rattle.sw_pass.specs.Known.{size_of};
 ghost use Rattle.sw_cell.specs.Mounting.{AreEmpty};
 
-use crate::LocalLink;
+use crate::{ConnEnd, LocalLink, serve_connection};
 use std::alloc::Global;
 use std::cell::Cell;
 use std::marker::Brand;
@@ -18,11 +18,11 @@ use std::process::Abort;
 use std::sync::Wait;
 use std::test::Fail;
 use std::thread::{Threads, map_vec};
-use sw_cell::{Cells, Site};
+use sw_cell::{Cells, CellsFault, Site};
 use sw_daemon::pass as reconstruct;
 use sw_front::{get, put};
 use sw_get::GetEnd;
-use sw_io::{Gate, GatePoint, MemClock, OpenGate};
+use sw_io::{Gate, GatePoint, MemClock, MemConn, OpenGate};
 use sw_memdisk::MemDisk;
 use sw_message::{Draw, Link};
 use sw_pass::{OfCluster, Pass, StampTable};
@@ -44,13 +44,13 @@ fn device_at(cluster: &Cluster, slot: usize) -> Option<u16>
     Some(cluster.devices().get(slot)?.id)
 }
 
-// An empty disk of a device.
-fn empty_disk(alloc: Global, cluster: &Cluster, device: &Device) -> MemDisk
+// An empty disk of a device, of which the calls of these numbers fail.
+fn empty_disk(alloc: Global, cluster: &Cluster, device: &Device, failing: Vec<u64>) -> MemDisk
     requires rules { KeepsRules cluster.now }
     requires device { Contains cluster.now.devices device.now }
     ensures { IfTold (seen_of result).told (IsEmptyFor cluster.now device.now.id) }
 {
-    MemDisk::new(alloc, device.capacity, Vec::new(alloc))
+    MemDisk::new(alloc, device.capacity, failing)
 }
 
 // The device at a slot, and an empty disk of it.
@@ -59,16 +59,20 @@ fn disk_at(alloc: Global, cluster: &Cluster, slot: usize) -> Option<(u16, MemDis
     ensures empty { IfSome result (λ one. IfTold (seen_of one.1).told (IsEmptyFor cluster.now one.0)) }
 {
     let device = cluster.devices().get(slot)?;
-    Some((device.id, empty_disk(alloc, cluster, device)))
+    Some((
+        device.id,
+        empty_disk(alloc, cluster, device, Vec::new(alloc)),
+    ))
 }
 
-// An empty disk for each device.
-fn new_disks(alloc: Global, cluster: &Cluster) -> Result<Vec<MemDisk>, Fail>
+// An empty disk for each device. The first call of one may fail.
+fn new_disks(alloc: Global, cluster: &Cluster, fails: Option<u16>) -> Result<Vec<MemDisk>, Fail>
     ensures { IfOk result (λ disks. AreEmpty seen_of cluster.now disks.items) }
 {
     let mut disks = Vec::new(alloc);
     'each: for device in cluster.devices() {
-        disks.push(empty_disk(alloc, cluster, device))?;
+        let failing = vec![in alloc; if fails == Some(device.id) { 1 } else { 0 }]?;
+        disks.push(empty_disk(alloc, cluster, device, failing))?;
     }
     Ok(disks)
 }
@@ -245,6 +249,28 @@ fn rebuild<C: OfCluster, J: Site, R: Wait>(
     ))
 }
 
+// A put and a get of its object, on one connection.
+fn serve_both<C: OfCluster, J: Site, R: Wait + Abort>(
+    rt: &R,
+    alloc: Global,
+    cells: &Cells<MemDisk, C, J>,
+    pass: Pass<C>,
+) -> Option<Pass<C>>
+    requires { pass.table ≡ J.table }
+    ensures { IfSome result (λ pass. pass.table ≡ J.table) }
+{
+    let clock = MemClock::new(Stamp::make(START)?);
+    let asked =
+        "PUT /v1/a/c/p HTTP/1.1\r\nHost: h\r\nContent-Type: text/plain\r\nContent-Length: 3\r\n\r\nabcGET /v1/a/c/p HTTP/1.1\r\nHost: h\r\n\r\n";
+    let mut conn = MemConn::new(alloc, asked.as_bytes().to_vec(alloc).ok()?);
+    let (pass, end) = serve_connection(rt, alloc, &mut conn, pass, cells, &clock, &OpenGate, 0);
+    let want =
+        "HTTP/1.1 201 Created\r\nContent-Length: 0\r\nETag: 900150983cd24fb0d6963f7d28e17f72\r\nX-Timestamp: 1000000000.00002\r\nX-Commits: 3\r\n\r\nHTTP/1.1 200 OK\r\nContent-Length: 3\r\nContent-Type: text/plain\r\nETag: 900150983cd24fb0d6963f7d28e17f72\r\nX-Timestamp: 1000000000.00002\r\n\r\nabc";
+    assert_eq!(rt; end, ConnEnd::Closed);
+    assert_eq!(rt; conn.written(), want.as_bytes());
+    Some(pass)
+}
+
 // What the disks hold at the end of both objects. The disk at slot 1 has the same archive as the one that was lost.
 fn expect_rebuilt(
     rt: &impl Abort,
@@ -290,8 +316,9 @@ fn repair<C: OfCluster, J: Site, R: Wait + Abort>(
     let lost = renew(rt, alloc, &cells, &mut pass, 1)?;
     let (pass, report) = rebuild(rt, alloc, &cells, pass, 0)?;
     assert_eq!(rt; report, [2, 2, 0]);
-    let (mut pass, report) = rebuild(rt, alloc, &cells, pass, 3)?;
+    let (pass, report) = rebuild(rt, alloc, &cells, pass, 3)?;
     assert_eq!(rt; report, [0, 0, 1]);
+    let mut pass = serve_both(rt, alloc, &cells, pass)?;
     Some((lost, cells.close(&mut pass)))
 }
 
@@ -305,7 +332,7 @@ fn repair_in<C: OfCluster, J: Site, R: Wait + Abort>(
     requires cluster { cluster ≡ C.cluster }
     requires table { (table ≡ J.table) × (pass.table ≡ J.table) }
 {
-    let disks = new_disks(alloc, &cluster)?;
+    let disks = new_disks(alloc, &cluster, None)?;
     let Ok(cells) = Cells::<MemDisk, C, J>::new(alloc, cluster, table, &mut pass, disks) else {
         return Err("not mounted".into());
     };
@@ -451,7 +478,7 @@ fn race<C: OfCluster + Send + Sync, J: Site + Send + Sync, R: Threads + Wait + S
     requires cluster { cluster ≡ C.cluster }
     requires table { (table ≡ J.table) × (pass.table ≡ J.table) }
 {
-    let disks = new_disks(alloc, &cluster)?;
+    let disks = new_disks(alloc, &cluster, None)?;
     let Ok(cells) = Cells::<MemDisk, C, J>::new(alloc, cluster, table, &mut pass, disks) else {
         return Err("not mounted".into());
     };
@@ -468,6 +495,29 @@ fn race<C: OfCluster + Send + Sync, J: Site + Send + Sync, R: Threads + Wait + S
     let closed = cells.close(&mut pass);
     expect_stamps(rt, alloc, &stamps)?;
     expect_disks(rt, alloc, &stamps, &closed)
+}
+
+// ---- a disk that fails
+
+// All disks come back where one fails as it is mounted, and its device is told.
+fn refuse<C: OfCluster, J: Site>(
+    rt: &impl Abort,
+    alloc: Global,
+    cluster: Cluster,
+    table: StampTable<C>,
+    mut pass: Pass<C>,
+) -> Result<(), Fail>
+    requires cluster { cluster ≡ C.cluster }
+    requires table { (table ≡ J.table) × (pass.table ≡ J.table) }
+{
+    let disks = new_disks(alloc, &cluster, Some(2))?;
+    let Err(CellsFault::Mount { device, disks }) = Cells::<MemDisk, C, J>::new(
+        alloc, cluster, table, &mut pass, disks,
+    ) else {
+        return Err("mounted".into());
+    };
+    assert_eq!(rt; (device, disks.len()), (2, 4));
+    Ok(())
 }
 
 // ---- a table of its own for each
@@ -506,6 +556,17 @@ fn race_with<C: OfCluster + Send + Sync, R: Threads + Wait + Sync + Abort>(
     race::<C, Brand, R>(rt, alloc, cluster, table, pass)
 }
 
+fn refuse_with<C: OfCluster, R: Abort>(rt: &R, alloc: Global, cluster: Cluster) -> Result<(), Fail>
+    requires { cluster ≡ C.cluster }
+{
+    let (table, pass) = StampTable::<C>::new(alloc, count_devices(&cluster)?)?;
+    refuse::<C, Brand>(rt, alloc, cluster, table, pass)
+}
+
+fn refuse_on<R: Abort>(rt: &R, alloc: Global, cluster: Cluster) -> Result<(), Fail> {
+    refuse_with::<Brand, R>(rt, alloc, cluster)
+}
+
 fn repair_on<R: Wait + Abort>(rt: &R, alloc: Global, cluster: Cluster) -> Result<(), Fail> {
     repair_with::<Brand, R>(rt, alloc, cluster)
 }
@@ -516,6 +577,12 @@ fn race_on<R: Threads + Wait + Sync + Abort>(
     cluster: Cluster,
 ) -> Result<(), Fail> {
     race_with::<Brand, R>(rt, alloc, cluster)
+}
+
+#[test]
+fn refuses_a_disk_that_fails(rt: HostRuntime) -> Result<(), Fail> {
+    let cluster = Cluster::read(rt.alloc(), built_in())?;
+    refuse_on(&rt, rt.alloc(), cluster)
 }
 
 #[test]

@@ -3,6 +3,7 @@
 ghost use Rattle.std.specs.Prelude.{◌≡◌, Some, true, false};
 ghost use Rattle.sw_message.specs.Running.{StillTells};
 ghost use Rattle.sw_ring.specs.Cluster.{ClusterModel};
+ghost use Rattle.sw_front.specs.Answering.{Answers};
 ghost use Rattle.sw_serve.specs.Ends.{CountsEnd};
 ghost use Rattle.sw_serve.specs.Serving.{Serves};
 
@@ -15,7 +16,7 @@ use sw_message::{Draw, Link};
 use sw_ring::Cluster;
 
 /// Serves a connection: its requests are read and answered one behind the other, at most a thousand, and it is closed.
-pub fn serve_connection<N: Conn, L: Draw>(
+pub fn serve_over<N: Conn, L: Draw>(
     alloc: Global,
     conn: &mut N,
     cluster: &Cluster,
@@ -23,7 +24,7 @@ pub fn serve_connection<N: Conn, L: Draw>(
 ) -> ConnEnd
     requires cluster { (of : ClusterModel) → L.cluster link.old ≡ Some of → cluster.now ≡ of }
     requires not_closed { N.closed conn.old ≡ false }
-    ensures serves { Serves (record { draws = L.draws; calls = L.calls; losses = L.losses; refusals = L.refusals; learnt = L.learnt; may_be_silent = L.may_be_silent }) cluster.now (N.remaining conn.old) (N.remaining conn.new) (N.written conn.old) (N.written conn.new) (N.faults conn.old) (N.faults conn.new) link.old result link.new }
+    ensures serves { Serves (Answers (record { draws = L.draws; calls = L.calls; losses = L.losses; refusals = L.refusals; learnt = L.learnt; may_be_silent = L.may_be_silent }) cluster.now) (N.remaining conn.old) (N.remaining conn.new) (N.written conn.old) (N.written conn.new) (N.faults conn.old) (N.faults conn.new) link.old result link.new }
     ensures counts { CountsEnd result (N.faults conn.old) (N.faults conn.new) }
     ensures closed { N.closed conn.new ≡ true }
     ensures tells { StillTells (L.may_be_silent link.new) (L.learnt link.old) (L.learnt link.new) }
@@ -44,7 +45,7 @@ fn serve_all<N: Conn, L: Draw>(
 ) -> ConnEnd
     requires cluster { (of : ClusterModel) → L.cluster link.old ≡ Some of → cluster.now ≡ of }
     requires not_closed { N.closed conn.old ≡ false }
-    ensures serves { Serves (record { draws = L.draws; calls = L.calls; losses = L.losses; refusals = L.refusals; learnt = L.learnt; may_be_silent = L.may_be_silent }) cluster.now (N.remaining conn.old) (N.remaining conn.new) (N.written conn.old) (N.written conn.new) (N.faults conn.old) (N.faults conn.new) link.old result link.new }
+    ensures serves { Serves (Answers (record { draws = L.draws; calls = L.calls; losses = L.losses; refusals = L.refusals; learnt = L.learnt; may_be_silent = L.may_be_silent }) cluster.now) (N.remaining conn.old) (N.remaining conn.new) (N.written conn.old) (N.written conn.new) (N.faults conn.old) (N.faults conn.new) link.old result link.new }
     ensures counts { CountsEnd result (N.faults conn.old) (N.faults conn.new) }
     ensures closed { N.closed conn.new ≡ N.closed conn.old }
     ensures tells { StillTells (L.may_be_silent link.new) (L.learnt link.old) (L.learnt link.new) }

@@ -1,6 +1,6 @@
 //! Connections over nodes on disks in memory, with the built-in ring.
 
-use crate::{ConnEnd, serve_connection};
+use crate::{ConnEnd, serve_over};
 use std::alloc::Global;
 use std::process::Abort;
 use std::test::Fail;
@@ -27,7 +27,7 @@ fn serve(
     if let Some(calls) = calls {
         conn.fuse(calls);
     }
-    let end = serve_connection(alloc, &mut conn, &cluster, &mut link);
+    let end = serve_over(alloc, &mut conn, &cluster, &mut link);
     Ok((end, Bytes::from_slice(alloc, conn.written())?))
 }
 

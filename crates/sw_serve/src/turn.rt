@@ -5,6 +5,7 @@ ghost use Rattle.sw_message.specs.Running.{StillTells};
 ghost use Rattle.sw_ring.specs.Cluster.{ClusterModel};
 ghost use Rattle.sw_request.specs.Body.{IsSound};
 ghost use Rattle.sw_request.specs.Refusal.{head_refusal};
+ghost use Rattle.sw_front.specs.Answering.{Answers};
 ghost use Rattle.sw_serve.specs.Serving.{closing_at};
 ghost use Rattle.sw_serve.specs.Turns.{CountsTurn, TakesBody, TakesHead, TakesRequest, TakesTurn};
 
@@ -42,7 +43,7 @@ pub(crate) fn serve_next<N: Conn, L: Draw>(
 ) -> Turn
     requires cluster { (of : ClusterModel) → L.cluster link.old ≡ Some of → cluster.now ≡ of }
     requires not_closed { N.closed conn.old ≡ false }
-    ensures takes { TakesTurn (record { draws = L.draws; calls = L.calls; losses = L.losses; refusals = L.refusals; learnt = L.learnt; may_be_silent = L.may_be_silent }) cluster.now number (N.remaining conn.old) (N.remaining conn.new) (N.written conn.old) (N.written conn.new) (N.faults conn.old) (N.faults conn.new) carry.old carry.new link.old link.new result }
+    ensures takes { TakesTurn (Answers (record { draws = L.draws; calls = L.calls; losses = L.losses; refusals = L.refusals; learnt = L.learnt; may_be_silent = L.may_be_silent }) cluster.now) number (N.remaining conn.old) (N.remaining conn.new) (N.written conn.old) (N.written conn.new) (N.faults conn.old) (N.faults conn.new) carry.old carry.new link.old link.new result }
     ensures counts { CountsTurn result (N.faults conn.old) (N.faults conn.new) }
     ensures closed { N.closed conn.new ≡ N.closed conn.old }
     ensures tells { StillTells (L.may_be_silent link.new) (L.learnt link.old) (L.learnt link.new) }
@@ -72,7 +73,7 @@ fn serve_head<N: Conn, L: Draw>(
 ) -> Turn
     requires cluster { (of : ClusterModel) → L.cluster link.old ≡ Some of → cluster.now ≡ of }
     requires not_closed { N.closed conn.old ≡ false }
-    ensures takes { TakesHead (record { draws = L.draws; calls = L.calls; losses = L.losses; refusals = L.refusals; learnt = L.learnt; may_be_silent = L.may_be_silent }) cluster.now number head (N.remaining conn.old) (N.remaining conn.new) (N.written conn.old) (N.written conn.new) (N.faults conn.old) (N.faults conn.new) carry.old carry.new link.old link.new result }
+    ensures takes { TakesHead (Answers (record { draws = L.draws; calls = L.calls; losses = L.losses; refusals = L.refusals; learnt = L.learnt; may_be_silent = L.may_be_silent }) cluster.now) number head (N.remaining conn.old) (N.remaining conn.new) (N.written conn.old) (N.written conn.new) (N.faults conn.old) (N.faults conn.new) carry.old carry.new link.old link.new result }
     ensures counts { CountsTurn result (N.faults conn.old) (N.faults conn.new) }
     ensures closed { N.closed conn.new ≡ N.closed conn.old }
     ensures tells { StillTells (L.may_be_silent link.new) (L.learnt link.old) (L.learnt link.new) }
@@ -103,7 +104,7 @@ fn serve_body<N: Conn, L: Draw>(
     requires cluster { (of : ClusterModel) → L.cluster link.old ≡ Some of → cluster.now ≡ of }
     requires no_defect { head_refusal head ≡ None }
     requires not_closed { N.closed conn.old ≡ false }
-    ensures takes { TakesBody (record { draws = L.draws; calls = L.calls; losses = L.losses; refusals = L.refusals; learnt = L.learnt; may_be_silent = L.may_be_silent }) cluster.now number head framing (N.remaining conn.old) (N.remaining conn.new) (N.written conn.old) (N.written conn.new) (N.faults conn.old) (N.faults conn.new) carry.old carry.new link.old link.new result }
+    ensures takes { TakesBody (Answers (record { draws = L.draws; calls = L.calls; losses = L.losses; refusals = L.refusals; learnt = L.learnt; may_be_silent = L.may_be_silent }) cluster.now) number head framing (N.remaining conn.old) (N.remaining conn.new) (N.written conn.old) (N.written conn.new) (N.faults conn.old) (N.faults conn.new) carry.old carry.new link.old link.new result }
     ensures counts { CountsTurn result (N.faults conn.old) (N.faults conn.new) }
     ensures closed { N.closed conn.new ≡ N.closed conn.old }
     ensures tells { StillTells (L.may_be_silent link.new) (L.learnt link.old) (L.learnt link.new) }
@@ -136,7 +137,7 @@ fn serve_request<N: Conn, L: Draw>(
     requires cluster { (of : ClusterModel) → L.cluster link.old ≡ Some of → cluster.now ≡ of }
     requires sound { IsSound request.now }
     requires not_closed { N.closed conn.old ≡ false }
-    ensures takes { TakesRequest (record { draws = L.draws; calls = L.calls; losses = L.losses; refusals = L.refusals; learnt = L.learnt; may_be_silent = L.may_be_silent }) cluster.now number request.now (N.remaining conn.new) (N.written conn.old) (N.written conn.new) (N.faults conn.old) (N.faults conn.new) link.old link.new result }
+    ensures takes { TakesRequest (Answers (record { draws = L.draws; calls = L.calls; losses = L.losses; refusals = L.refusals; learnt = L.learnt; may_be_silent = L.may_be_silent }) cluster.now) number request.now (N.remaining conn.new) (N.written conn.old) (N.written conn.new) (N.faults conn.old) (N.faults conn.new) link.old link.new result }
     ensures remaining { N.remaining conn.new ≡ N.remaining conn.old }
     ensures counts { CountsTurn result (N.faults conn.old) (N.faults conn.new) }
     ensures closed { N.closed conn.new ≡ N.closed conn.old }

@@ -3,7 +3,7 @@ use Rattle.std.specs.Prelude.{◌≡◌, ◌≤◌, ℕ, Bool, true, false, List
 use Rattle.sw_words.specs.Counts.{one_more}
 use Rattle.sw_ring.specs.Cluster.{ClusterModel, ids_of}
 use Rattle.sw_shelf.specs.Shelf.{with_all}
-use Rattle.sw_front.specs.Answering.{Ways}
+use Rattle.sw_front.specs.Answering.{Answers, Ways}
 use Rattle.sw_serve.specs.Ends.{CountsEnd}
 use Rattle.sw_serve.specs.Serving.{Serves}
 use Rattle.sw_serve.specs.declared.end.ConnEnd.{ConnEnd}
@@ -49,7 +49,7 @@ module _ {N L : Type 0} (conns : ConnMembers N) (ways : Ways L) (cluster : Clust
   pub record IsServed (visit : Visit N) (before after : L) : Type 0 where
     pub fresh : IsFresh conns visit.came
     pub end : ConnEnd
-    pub serves : Serves ways cluster (conns.remaining visit.came) (conns.remaining visit.went) (conns.written visit.came) (conns.written visit.went) (conns.faults visit.came) (conns.faults visit.went) before end after
+    pub serves : Serves (Answers ways cluster) (conns.remaining visit.came) (conns.remaining visit.went) (conns.written visit.came) (conns.written visit.went) (conns.faults visit.came) (conns.faults visit.went) before end after
     pub counts : CountsEnd end (conns.faults visit.came) (conns.faults visit.went)
     pub closed : conns.closed visit.went ≡ true
 

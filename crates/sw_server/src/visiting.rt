@@ -12,7 +12,7 @@ use std::alloc::Global;
 use sw_io::{Conn, Doors, Gate, GatePoint};
 use sw_message::Draw;
 use sw_ring::Cluster;
-use sw_serve::serve_connection;
+use sw_serve::serve_over;
 
 /// Serves the connections that come through open doors, one behind the other, up to the last or a failure.
 pub(crate) fn serve_each<A: Doors, L: Draw, G: Gate>(
@@ -60,7 +60,7 @@ fn serve_one<N: Conn, L: Draw, G: Gate>(
     let mut conn = conn;
     gate.at(0, GatePoint::Accepted);
     // How the connection ended is its own matter, and a pass that wants memory ends there.
-    let _end = serve_connection(alloc, &mut conn, cluster, link);
+    let _end = serve_over(alloc, &mut conn, cluster, link);
     let _passed = pass_over_all(alloc, cluster, link);
     conn
 }

@@ -11,7 +11,7 @@ returns c =
     let cluster = c.args.cluster.now in
     let device = c.args.device.now in
     let has = c.requires.device in
-    subst (λ (disk : MemDiskModel). IfTold (seen_of disk).told (IsEmptyFor cluster device.id)) (sym c.new-2.ensures) (record {
+    subst (λ (disk : MemDiskModel). IfTold (seen_of disk).told (IsEmptyFor cluster device.id)) (sym c.new.ensures) (record {
       empty = λ name. refl;
       capacity = capacity_is cluster c.requires.rules has.0 device (slice_get-get_or cluster.devices has.0 device has.1 ∙ ap Some has.2);
     })

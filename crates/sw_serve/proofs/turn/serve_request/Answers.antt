@@ -5,9 +5,9 @@ use Rattle.sw_serve.proofs.turn.serve_request.Goals as goal
 
 pub returns-in-Ok-clause-takes : goal.returns-in-Ok-clause-takes
 returns-in-Ok-clause-takes g c =
-    request_sent _ c.args.cluster.now c.args.number c.args.link.now c.answer.new.link _ _ c.args.request.now _ _ _ c.in-Ok.answer c.closing_at.result c.is_head-to_head.result _ (c.is_head-to_head.ensures ∙ ap is_head c.head.ensures) c.in-Ok.ensures.answers c.closing_at.ensures c.send-in-Ok.ensures.sent
+    request_sent _ c.args.number c.args.link.now c.answer.new.link _ _ c.args.request.now _ _ _ c.in-Ok.answer c.closing_at.result c.is_head-to_head.result _ (c.is_head-to_head.ensures ∙ ap is_head c.head.ensures) c.in-Ok.ensures.answers c.closing_at.ensures c.send-in-Ok.ensures.sent
 
 pub returns-in-Err-clause-takes : goal.returns-in-Err-clause-takes
 returns-in-Err-clause-takes g c =
-    request_wants _ c.args.cluster.now c.args.number c.args.link.now c.answer.new.link _ _ c.args.request.now _ _ _ _ c.is_head-to_head.result _ (c.is_head-to_head.ensures ∙ ap is_head c.head.ensures) c.in-Err.ensures.answers c.want.ensures.over
+    request_wants _ c.args.number c.args.link.now c.answer.new.link _ _ c.args.request.now _ _ _ _ c.is_head-to_head.result _ (c.is_head-to_head.ensures ∙ ap is_head c.head.ensures) c.in-Err.ensures.answers c.want.ensures.over
     c.want.ensures.told

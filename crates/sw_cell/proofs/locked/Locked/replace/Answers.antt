@@ -1,4 +1,4 @@
-use Rattle.std.proofs.Common.{◌≡◌, ◌≤◌, ◌*◌, ℕ, false, length, None, refl, ap, subst, sym, ◌∙◌}
+use Rattle.std.proofs.Common.{◌≡◌, ◌≤◌, ◌*◌, ℕ, false, ◌∷◌, length, None, refl, ap, subst, sym, ◌∙◌}
 use Rattle.sw_ring.specs.Cluster.{ClusterModel}
 use Rattle.sw_disk.specs.Runs.{IfTold}
 use Rattle.sw_message.specs.Message.{IsMember}
@@ -12,7 +12,7 @@ use Rattle.sw_pass.specs.declared.known.Known.{Known}
 use Rattle.sw_cell.specs.Locked.{IsLocked, LockedModel}
 use Rattle.sw_cell.specs.Standing.{IsReplaced}
 use Rattle.sw_cell.proofs.Closing.{has_history}
-use Rattle.sw_cell.proofs.Replacing.{event_room, locked_replaced, loss_may, loss_room, replaced}
+use Rattle.sw_cell.proofs.Replacing.{event_room, left_events, locked_replaced, loss_may, loss_room, replaced}
 use Rattle.sw_cell.proofs.Slots.{one_device, slot_member}
 use Rattle.sw_cell.proofs.locked.Locked.replace.Given.{Over}
 use Rattle.sw_cell.proofs.locked.Locked.replace.Goals as goal
@@ -72,3 +72,17 @@ returns-clause-replaced g c = λ few.
     (λ one. has_history cluster seen (history seat.known.histories seat.slot) c.self.inside.node c.args.device c.unmount.result lost device (c.self.invariant.replayed one) c.self.invariant.counted) few in
     subst (λ (slot : ℕ). IsReplaced cluster seen c.args.device slot c.args.pass.now.known c.join-2.new.self.known c.unmount.result) (ap (λ (one : LockedModel g.row.D.Denot). one.slot) c.self.view_is)
     (subst (λ (pass : Known). IsReplaced cluster seen c.args.device seat.slot pass c.join-2.new.self.known c.unmount.result) same is)
+
+pub returns-clause-added : goal.returns-clause-added
+returns-clause-added g c =
+    let seat = c.self.inside.seat in
+    let loss = c.loss-loss.result in
+    let is = left_events seat.known c.note.result.known c.join.new.self.known seat.slot loss c.join.ensures.known c.join.ensures.node c.loss-loss.new.self.known c.add_loss.new.seat.known c.loss-loss.ensures.known (left_is g c) in (
+      loss,
+      subst (λ (one : LockedModel g.row.D.Denot). history c.note-2.new.self.known.histories one.slot ≡ Replaced loss ∷ history one.known.histories one.slot) c.self.view_is
+          (subst (λ (held : HeldNode). history held.known.histories seat.slot ≡ Replaced loss ∷ history seat.known.histories seat.slot) (sym c.note-2.ensures.same) is),
+    )
+
+pub returns-clause-quiet : goal.returns-clause-quiet
+returns-clause-quiet g c =
+    ap (λ (one : NodeModel g.row.D.Denot). (g.D.Disk.seen one.disk).faults) c.replace-lost.ensures.after ∙ c.in_ok-node.ensures.mounted.quiet (λ failed. absurd (cc))
