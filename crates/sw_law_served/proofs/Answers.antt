@@ -1,5 +1,5 @@
 -- An answer over a link to nodes behind locks that loses no call shows what the view promises.
-use Rattle.std.proofs.Common.{◌≡◌, ◌⊎◌, inl, inr, ⊎_elim, ℕ, ◌+◌, ◌<◌, ◌≤◌, Bool, true, false, Contains, List, [], length, Option, Some, None, refl, sym, ap, subst, ◌∙◌}
+use Rattle.std.proofs.Common.{◌≡◌, inl, inr, ⊎_elim, ℕ, Bool, true, false, List, [], Option, Some, None, refl, sym, ap, subst, ◌∙◌}
 use Rattle.std.specs.Prelude.{Result, Ok, Err}
 use Rattle.sw_types.specs.Name.{NameModel}
 use Rattle.sw_types.specs.Object.{ObjectModel, object_of}
@@ -15,10 +15,9 @@ use Rattle.sw_request.specs.declared.method.Method.TheVariants.{Delete, Get, Hea
 use Rattle.sw_delete.specs.declared.end.DeleteEnd.{DeleteEnd}
 use Rattle.sw_get.specs.Get as gets
 use Rattle.sw_get.specs.declared.end.GetEnd.{GetEnd}
-use Rattle.sw_get.specs.declared.end.GetEnd.TheVariants.{Absent, Buried, Found, Overtaken, TooFew, Unanswered}
+use Rattle.sw_get.specs.declared.end.GetEnd.TheVariants.{Found}
 use Rattle.sw_put.specs.declared.end.PutEnd.{PutEnd}
-use Rattle.sw_put.specs.declared.end.PutEnd.TheVariants.{Created}
-use Rattle.sw_front.specs.Answering.{Answers, DeleteAnswers, GetAnswers, MethodAnswers, Operates, PutAnswers, Refuses, Ways}
+use Rattle.sw_front.specs.Answering.{Answers, DeleteAnswers, GetAnswers, MethodAnswers, PutAnswers, Refuses, Ways}
 use Rattle.sw_front.specs.Over.{DeletesOver, GetsOver, IfFound, Learning, PutsOver, WentOver, put_of}
 use Rattle.sw_front.specs.declared.fault.FrontFault.{FrontFault}
 use Rattle.sw_front.specs.declared.fault.FrontFault.TheVariants as fault
@@ -28,9 +27,9 @@ use Rattle.sw_law_reading.specs.Reading.{AreCallsOver, IsFoundIn}
 use Rattle.sw_law_reading.proofs.Acknowledged.{created_over}
 use Rattle.sw_law_reading.proofs.Called.{grown}
 use Rattle.sw_law_reading.proofs.Shows.{found_over, never_older, shows as all_shows}
-use Rattle.sw_local.specs.Link.{Calls, Draws, Drew, LocalModel, Spent}
-use Rattle.sw_law_served.specs.Served.{AnswerShows, DeleteWent, GetWent, MayServe, MethodShows, OperationShows, PutWent, ShowsSoundly, WentBy, get_of, local_ways, put_drawn, view_by}
-use Rattle.sw_law_served.proofs.Calls.{Tells, sound_behind, went_by}
+use Rattle.sw_local.specs.Link.{Calls, Draws, LocalModel, Spent}
+use Rattle.sw_law_served.specs.Served.{AnswerShows, DeleteWent, GetWent, MayServe, MethodShows, PutWent, ShowsSoundly, WentBy, get_of, local_ways, put_drawn, view_by}
+use Rattle.sw_law_served.proofs.Calls.{sound_behind, went_by}
 use Rattle.sw_law_served.proofs.Draws.{few_drawn, few_spent, grown_by, grown_spent, has_put, lost_same}
 use Rattle.sw_law_served.proofs.Lost.{lost_kept}
 

@@ -1,5 +1,5 @@
 -- The calls of an operation over nodes behind locks, none of which is lost, are a chain of views, and the pass draws nothing by them.
-use Rattle.std.proofs.Common.{◌≡◌, ⊎_elim, ℕ, ◌≤◌, Bool, true, false, Contains, List, [], ◌∷◌, Option, Some, None, refl, sym, ap, subst, ◌∙◌, arith}
+use Rattle.std.proofs.Common.{◌≡◌, ⊎_elim, ℕ, true, false, Contains, List, [], ◌∷◌, Option, Some, None, refl, sym, ap, subst, ◌∙◌, arith}
 use Rattle.sw_words.specs.Counts.{one_more}
 use Rattle.sw_diskfile.proofs.Lists.{Contains-none}
 use Rattle.sw_ring.specs.Cluster.{ClusterModel}
@@ -9,13 +9,12 @@ use Rattle.sw_message.specs.declared.message.Msg.{Msg}
 use Rattle.sw_message.specs.declared.reply.Reply.{Reply}
 use Rattle.sw_message.specs.declared.reply.Reply.TheVariants.{DiskFault, NoMemory}
 use Rattle.sw_view.specs.History.{Continues}
-use Rattle.sw_view.specs.View.{Grows, IsSoundView}
+use Rattle.sw_view.specs.View.{IsSoundView}
 use Rattle.sw_view.specs.declared.event.Event.{Event}
 use Rattle.sw_view.specs.declared.event.Event.TheVariants.{Mounted}
 use Rattle.sw_law_reading.specs.Reading.{AddsReply, AreCallsOver, IsCall}
 use Rattle.sw_law_reading.proofs.Links.{chained}
-use Rattle.sw_pass.specs.Known.{Covers, history, slot_of, view_of}
-use Rattle.sw_pass.specs.Steps.{old_of}
+use Rattle.sw_pass.specs.Known.{history, slot_of, view_of}
 use Rattle.sw_pass.specs.declared.known.Known.{Known}
 use Rattle.sw_pass.proofs.Histories.{continues_itself, continues_more, continues_one}
 use Rattle.sw_cell.specs.Calling.{IsCalled, IsRepliedTo}

@@ -1,10 +1,10 @@
 -- A draw of a link over nodes behind locks: the view has the put then, it has grown, and is sound still.
-use Rattle.std.proofs.Common.{◌≡◌, ⊎_elim, ℕ, true, false, Contains, List, [], ◌∷◌, Option, Some, refl, sym, ap, subst, ◌∙◌}
+use Rattle.std.proofs.Common.{◌≡◌, ⊎_elim, ℕ, false, Contains, List, [], ◌∷◌, Option, Some, sym, ap, subst, ◌∙◌}
 use Rattle.sw_types.specs.Name.{NameModel}
 use Rattle.sw_types.specs.Object.{ObjectModel}
 use Rattle.sw_diskfile.proofs.Lists.{Contains-first, Contains-later}
 use Rattle.sw_ring.specs.Cluster.{ClusterModel}
-use Rattle.sw_view.specs.View.{DrawnPut, Grows}
+use Rattle.sw_view.specs.View.{Grows}
 use Rattle.sw_view.specs.declared.event.Event.{Event}
 use Rattle.sw_pass.specs.Known.{history, puts_in}
 use Rattle.sw_pass.specs.Steps.{counted, drew, fact_of, filled}

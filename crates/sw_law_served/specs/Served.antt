@@ -1,5 +1,5 @@
 -- What the answer to a request over nodes behind locks shows, by what the pass of the thread knows.
-use Rattle.std.specs.Prelude.{◌≡◌, ◌⊎◌, ◌↔◌, ◌<◌, ◌≤◌, ◌+◌, ℕ, Bool, true, false, IsTrue, List, [], length, Option, Some, None, Result, Ok, Err, ⊤}
+use Rattle.std.specs.Prelude.{◌≡◌, ◌⊎◌, ◌↔◌, ◌<◌, ◌≤◌, ◌+◌, ℕ, Bool, true, false, IsTrue, List, [], length, Some, None, Result, Ok, Err, ⊤}
 use Rattle.sw_types.specs.Name.{NameModel}
 use Rattle.sw_types.specs.Object.{ObjectModel, object_of}
 use Rattle.sw_types.specs.declared.memory.NoMemory.{NoMemory as Refused}

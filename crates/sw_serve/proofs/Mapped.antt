@@ -1,12 +1,12 @@
 -- A connection that was served by answers of one kind was served by those of another, where each of the first is one of the second for a link as it
 -- stood then.
-use Rattle.std.proofs.Common.{◌≡◌, ◌⊎◌, inl, inr, ⊎_elim, ℕ, ◌+◌, List, [], ◌∷◌, length, Option, sym, subst}
+use Rattle.std.proofs.Common.{inl, inr, ⊎_elim, ℕ, ◌+◌, List, [], ◌∷◌, length, Option, sym, subst}
 use Rattle.std.specs.Prelude.{Result, Ok}
 use Rattle.sw_types.specs.declared.memory.NoMemory.{NoMemory as Refusal}
 use Rattle.sw_httpwrite.specs.Answer.{AnswerModel}
 use Rattle.sw_request.specs.Body.{RequestModel}
 use Rattle.sw_serve.specs.Asks.{Asked, Refused, Whole}
-use Rattle.sw_serve.specs.Serving.{Answering, AreServed, Exchange, IsCutOff, IsEnd, IsWanting, Replies, Serves, Wants}
+use Rattle.sw_serve.specs.Serving.{Answering, AreServed, Exchange, IsCutOff, IsEnd, Replies, Serves, Wants}
 use Rattle.sw_serve.specs.declared.end.ConnEnd.{ConnEnd}
 use Rattle.sw_serve.specs.declared.end.ConnEnd.TheVariants as end
 

@@ -1,5 +1,4 @@
 use Rattle.std.proofs.Common.{◌≡◌, ℕ, List, ap, sym, ◌∙◌}
-use Rattle.sw_local.specs.Link.{LocalModel}
 use Rattle.sw_serve.specs.Soundly.{fresh_link}
 use Rattle.sw_serve.proofs.Soundly.{serves_soundly}
 use Rattle.sw_serve.proofs.connection.serve_connection.Goals as goal
