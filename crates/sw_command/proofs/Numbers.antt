@@ -1,12 +1,12 @@
 -- Numbers that are spelled by words.
-use Rattle.std.proofs.Common.{Result, Ok, Err, ◌≡◌, ℕ, ◌^◌, ◌<◌, ◌≤◌, true, false, nat_lt, List, Some, refl, ap, ◌∙◌, arith}
+use Rattle.std.proofs.Common.{Result, Ok, Err, ◌≡◌, ℕ, ◌^◌, ◌<◌, ◌≤◌, true, false, nat_lt, List, Option, None, Some, IfSome, refl, ap, ◌∙◌, arith}
 use Rattle.std.specs.Cmp.Lexicographic.{bytes_decides}
 use Rattle.std.specs.Fmt.{decimal}
 use Rattle.std.specs.Result.{OkIff, result_ok}
 use Rattle.std.specs.Str.Parse.{digits_value}
 use Rattle.std.proofs.lemmas.Bool.Decides.{nat_tests}
 use Rattle.std.proofs.lemmas.Fmt.{decimal_is_IsNumeral}
-use Rattle.sw_command.specs.Words.{is_text, number_of}
+use Rattle.sw_command.specs.Words.{IsInRange, greatest_port, is_text, most_workers, number_of, serve_of}
 
 decimal_value : (text : List ℕ) (number : ℕ) → number < 2 ^ 64 → text ≡ decimal number → digits_value 10 text ≡ number
 decimal_value text number small printed = ap (digits_value 10) printed ∙ (decimal_is_IsNumeral number small).1
@@ -23,3 +23,9 @@ found most text number small printed least within =
 pub converted : {E : Type 0} (result : Result ℕ E) (P : Type 0) (number : ℕ) → OkIff result P number → P → result_ok result ≡ Some number
 converted (Ok value) P number is holds = ap Some is.1
 converted (Err error) P number is holds = absurd (is holds)
+
+-- serving with a port and a number of workers that are in their ranges
+pub in_range : (port workers : Option ℕ) → IfSome port (λ number. (1 ≤ number) × (number ≤ greatest_port)) → IfSome workers (λ number. (1 ≤ number) × (number ≤ most_workers)) → IfSome (serve_of port workers) IsInRange
+in_range None workers one other = tt
+in_range (Some port) None one other = tt
+in_range (Some port) (Some workers) one other = (one.0, one.1, other.0, other.1)

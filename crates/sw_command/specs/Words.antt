@@ -1,6 +1,6 @@
 -- The command that the words of a command line ask for: the program's name, the command's, and what is to match that command. Each is one
 -- of clap's simple commands, without a help flag, whose arguments are required positionals, taken as text.
-use Rattle.std.specs.Prelude.{ℕ, nat_eq, nat_lt, Bool, true, false, not, ◌&&◌, if◌then◌else◌, codes, List, [], ◌∷◌, Option, Some, None}
+use Rattle.std.specs.Prelude.{◌≤◌, ⊤, ℕ, nat_eq, nat_lt, Bool, true, false, not, ◌&&◌, if◌then◌else◌, codes, List, [], ◌∷◌, Option, Some, None}
 use Rattle.std.specs.Cmp.Lexicographic.{pointwise}
 use Rattle.std.specs.Fmt.{decimal}
 use Rattle.std.specs.Str.Parse.{digits_value}
@@ -47,12 +47,17 @@ number_in most (Some text) = number_of most text
 
 -- ---- what is asked for
 
--- connections are served one behind the other, by one worker
+-- the greatest number of workers
 abbrev pub most_workers : ℕ
-most_workers = 1
+most_workers = 16
 
 abbrev pub greatest_port : ℕ
 greatest_port = 65535
+
+-- a port that there is, and as many workers as there may be
+abbrev pub IsInRange : Command → Type 0
+IsInRange Play = ⊤
+IsInRange (Serve port workers) = (1 ≤ port) × (port ≤ greatest_port) × (1 ≤ workers) × (workers ≤ most_workers)
 
 abbrev pub serve_of : Option ℕ → Option ℕ → Option Command
 serve_of (Some port) (Some workers) = Some (Serve port workers)

@@ -1,9 +1,9 @@
 //! The words of a command line.
 
-ghost use Rattle.std.specs.Prelude.{◌≡◌, Bool, true, map, option_map, IfOk, IfSome, is_some, string_bytes};
+ghost use Rattle.std.specs.Prelude.{◌≡◌, ◌≤◌, Bool, true, map, option_map, IfOk, IfSome, is_some, string_bytes};
 ghost use Rattle.clap.specs.Words.{app_of, fault_of, first_value, found_of, is_simple_and_free};
 ghost use Rattle.clap.specs.Simple.{HasMatchesOf};
-ghost use Rattle.sw_command.specs.Words.{are_matches, command_in, number_in, number_of, play_in, serve_in, serve_of};
+ghost use Rattle.sw_command.specs.Words.{IsInRange, are_matches, command_in, number_in, number_of, play_in, serve_in, serve_of};
 
 use crate::Command;
 use clap::error::ErrorKind;
@@ -11,12 +11,13 @@ use clap::{Arg, ArgMatches};
 use std::alloc::Global;
 use sw_types::{NoMemory, read_decimal};
 
-/// The greatest number of connection workers: connections are served one behind the other.
-const MOST_WORKERS: u16 = 1;
+/// The greatest number of workers that serve connections.
+const MOST_WORKERS: u16 = 16;
 
 /// The command that the words of a command line ask for, the program's name first among them, if they ask for one.
 pub fn read_command(alloc: Global, words: &[String]) -> Result<Option<Command>, NoMemory>
-    ensures { IfOk result (λ command. command ≡ command_in (map (λ word. string_bytes word) words.now)) }
+    ensures command { IfOk result (λ command. command ≡ command_in (map (λ word. string_bytes word) words.now)) }
+    ensures range { IfOk result (λ command. IfSome command IsInRange) }
 {
     if words.len() < 2 {
         return Ok(None);
@@ -30,7 +31,8 @@ pub fn read_command(alloc: Global, words: &[String]) -> Result<Option<Command>, 
 
 // What `play`, first among the words, asks for.
 fn read_play(alloc: Global, words: &[String]) -> Result<Option<Command>, NoMemory>
-    ensures { IfOk result (λ command. command ≡ play_in (map (λ word. string_bytes word) words.now)) }
+    ensures command { IfOk result (λ command. command ≡ play_in (map (λ word. string_bytes word) words.now)) }
+    ensures range { IfOk result (λ command. IfSome command IsInRange) }
 {
     let command = clap::Command::new(alloc, "play").disable_help_flag(true);
     match matches_in(command, words)? {
@@ -41,7 +43,8 @@ fn read_play(alloc: Global, words: &[String]) -> Result<Option<Command>, NoMemor
 
 // What `serve`, first among the words, asks for.
 fn read_serve(alloc: Global, words: &[String]) -> Result<Option<Command>, NoMemory>
-    ensures { IfOk result (λ command. command ≡ serve_in (map (λ word. string_bytes word) words.now)) }
+    ensures command { IfOk result (λ command. command ≡ serve_in (map (λ word. string_bytes word) words.now)) }
+    ensures range { IfOk result (λ command. IfSome command IsInRange) }
 {
     let port = Arg::new(alloc, "PORT").required(true);
     let workers = Arg::new(alloc, "WORKERS").required(true);
@@ -77,14 +80,16 @@ fn matches_in<'a>(
 
 // The number from 1 up to the greatest one whose decimal a text is, where there is one.
 fn number_in(text: Option<&str>, most: u16) -> Option<u16>
-    ensures { result ≡ number_in most (option_map (λ bytes. bytes.now) text.entry) }
+    ensures number { result ≡ number_in most (option_map (λ bytes. bytes.now) text.entry) }
+    ensures range { IfSome result (λ number. (1 ≤ number) × (number ≤ most)) }
 {
     number_of(text?.as_bytes(), most)
 }
 
 // The number from 1 up to the greatest one whose decimal a text is.
 fn number_of(text: &[u8], most: u16) -> Option<u16>
-    ensures { result ≡ number_of most text.now }
+    ensures number { result ≡ number_of most text.now }
+    ensures range { IfSome result (λ number. (1 ≤ number) × (number ≤ most)) }
 {
     let number = read_decimal(text)?;
     if number < 1 || number > u64::from(most) {

@@ -31,10 +31,10 @@ fn reads_commands(rt: HostRuntime) -> Result<(), Fail> {
     let alloc = rt.alloc();
     assert_eq!(rt; read_command(alloc, &[])?, None);
     expect(&rt, alloc, &["play"], Some(Command::Play))?;
-    let serve = |port| Some(Command::Serve { port, workers: 1 });
-    expect(&rt, alloc, &["serve", "8080", "1"], serve(8080))?;
-    expect(&rt, alloc, &["serve", "65535", "1"], serve(65_535))?;
-    expect(&rt, alloc, &["serve", "1", "--", "1"], serve(1))?;
+    let serve = |port, workers| Some(Command::Serve { port, workers });
+    expect(&rt, alloc, &["serve", "8080", "1"], serve(8080, 1))?;
+    expect(&rt, alloc, &["serve", "65535", "16"], serve(65_535, 16))?;
+    expect(&rt, alloc, &["serve", "1", "--", "1"], serve(1, 1))?;
     let others: [&[&str]; 17] = [
         &[],
         &[""],
@@ -46,7 +46,7 @@ fn reads_commands(rt: HostRuntime) -> Result<(), Fail> {
         &["serve"],
         &["serve", "8080"],
         &["serve", "8080", "1", "1"],
-        &["serve", "8080", "2"],
+        &["serve", "8080", "17"],
         &["serve", "8080", "0"],
         &["serve", "0", "1"],
         &["serve", "65536", "1"],

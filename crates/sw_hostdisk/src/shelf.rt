@@ -23,7 +23,7 @@ pub struct HostShelf<R> {
     out: u64,
 }
 
-impl<R: Host + Send> HostShelf<R> {
+impl<R: Host + Send + Sync> HostShelf<R> {
     /// A shelf below a folder that is there, as `.` for the current one.
     pub fn new(host: R, root: &str) -> HostShelf<R>
         requires { length root.now ≤ 512 }
@@ -78,7 +78,7 @@ fn locked<R: Host>(host: &R, data: &HostPath) -> Result<File, HostFault> {
     }
 }
 
-impl<R: Host + Send> Shelf for HostShelf<R> {
+impl<R: Host + Send + Sync> Shelf for HostShelf<R> {
     ghost use Rattle.std.specs.Prelude.{◌≡◌, None, IfOk};
 
     type Disk = HostDisk<R>;

@@ -1,5 +1,5 @@
 -- What contracts see of the nodes of a cluster behind locks as a link, and what its calls and draws do.
-use Rattle.std.specs.Prelude.{◌≡◌, ◌==◌, ◌⊎◌, ◌≤◌, ℕ, Bool, true, false, not, List, [], ◌∷◌, filter, Contains, Option, Some, None, Result, Ok, Err}
+use Rattle.std.specs.Prelude.{◌≡◌, ◌==◌, ◌||◌, ◌⊎◌, ◌≤◌, ℕ, Bool, true, false, not, List, [], ◌∷◌, filter, Contains, Option, Some, None, Result, Ok, Err}
 use Rattle.sw_words.specs.Counts.{one_more}
 use Rattle.sw_types.specs.Name.{NameModel}
 use Rattle.sw_types.specs.Object.{ObjectModel}
@@ -10,6 +10,7 @@ use Rattle.sw_message.specs.Soundly.{told_soundly}
 use Rattle.sw_message.specs.declared.draw.DrawFault.{DrawFault}
 use Rattle.sw_message.specs.declared.message.Msg.{Msg}
 use Rattle.sw_message.specs.declared.reply.Reply.{Reply}
+use Rattle.sw_message.specs.declared.reply.Reply.TheVariants.{NoMemory}
 use Rattle.sw_view.specs.View.{IsSoundView, known_to}
 use Rattle.sw_pass.specs.Known.{AllAgree, history, slot_of, view_of}
 use Rattle.sw_pass.specs.Losses.{LossesBelow}
@@ -17,7 +18,8 @@ use Rattle.sw_pass.specs.Steps.{IsFresh, RestOf, counted, drew, filled, marked, 
 use Rattle.sw_pass.specs.declared.known.Known.{Known}
 use Rattle.sw_cell.specs.Calling.{IsCalled}
 
--- What the pass of a link knows, its clock, the calls that are lost, and what was counted: calls, losses, and draws that were refused.
+-- What the pass of a link knows, its clock, the calls that are lost, what was counted: calls, losses, and draws that were refused; and whether a node
+-- said that memory was wanted.
 pub record LocalModel (T : Type 0) : Type 0 where
   pub known : Known
   pub clock : T
@@ -25,6 +27,7 @@ pub record LocalModel (T : Type 0) : Type 0 where
   pub calls : ℕ
   pub losses : ℕ
   pub refused : ℕ
+  pub wants : Bool
 
 -- unless it found that 2^63 seats were made, what a seat knows is sound
 abbrev pub KnowsSoundly : ClusterModel → Known → Type 0
@@ -50,12 +53,17 @@ told_by cluster true false known = told_soundly cluster.policy (learnt_of cluste
 
 -- ---- calls
 
+-- the node says that memory was wanted
+abbrev pub wants_memory : Reply → Bool
+wants_memory NoMemory = true
+wants_memory other = false
+
 -- The call is not among those that are lost: the device was called, and the pass knows what happened.
 pub record WasCalled {T : Type 0} (cluster : ClusterModel) (tells : Bool) (before : LocalModel T) (device : ℕ) (msg : Msg) (reply : Reply) (after : LocalModel T) : Type 0 where
   pub member : IsMember cluster device
   pub kept : Contains before.lost (one_more before.calls) → ⊥
   pub called : after.known.crowded ≡ false → IsCalled cluster tells (slot_of cluster device) msg reply before.known after.known
-  pub after_is : after ≡ record before { known = after.known; calls = one_more before.calls }
+  pub after_is : after ≡ record before { known = after.known; calls = one_more before.calls; wants = before.wants || wants_memory reply }
 
 -- The call is among them: the pass knows no more than before.
 pub record WasNotCalled {T : Type 0} (cluster : ClusterModel) (before : LocalModel T) (device : ℕ) (after : LocalModel T) : Type 0 where

@@ -2,7 +2,7 @@
 
 ghost use Rattle.std.specs.Prelude.{◌≡◌, Some, None, true, false};
 ghost use Rattle.sw_cell.specs.Learning.{HasLearnt};
-ghost use Rattle.sw_local.specs.Link.{Calls, Draws, KnowsSoundly, learnt_of, told_by};
+ghost use Rattle.sw_local.specs.Link.{Calls, Draws, KnowsSoundly, learnt_of, told_by, wants_memory};
 ghost use Rattle.sw_local.specs.Sound.{told_by_test};
 
 use std::alloc::Global;
@@ -32,6 +32,8 @@ pub struct LocalLink<'a, D: Disk + Drop, C: OfCluster, J: Site, T: Clock, G: Gat
     calls: u64,
     losses: u64,
     refused: u64,
+    // A node said that memory was wanted.
+    wants: bool,
 }
 
 impl<'a, D: Disk + Drop, C: OfCluster, J: Site, T: Clock, G: Gate, R: Wait> Model
@@ -41,7 +43,7 @@ impl<'a, D: Disk + Drop, C: OfCluster, J: Site, T: Clock, G: Gate, R: Wait> Mode
 
     ghost Value = { LocalModel T };
 
-    ghost view = { λ it. record { known = it.pass.known; clock = it.clock.now; lost = it.lost.items; calls = it.calls; losses = it.losses; refused = it.refused } };
+    ghost view = { λ it. record { known = it.pass.known; clock = it.clock.now; lost = it.lost.items; calls = it.calls; losses = it.losses; refused = it.refused; wants = it.wants } };
 
     ghost invariant = { λ it. (it.pass.table ≡ J.table) × KnowsSoundly C.cluster it.pass.known };
 }
@@ -69,7 +71,7 @@ impl<'a, D: Disk + Drop, C: OfCluster, J: Site, T: Clock, G: Gate, R: Wait> Loca
         requires table { pass.table ≡ J.table }
         ensures learnt { result.known.crowded ≡ false → HasLearnt C.cluster pass.known result.known }
         ensures tells { D.tells ≡ true → result.known.crowded ≡ false → told_by C.cluster D.tells result.known.crowded result.known ≡ Some (learnt_of C.cluster result.known) }
-        ensures rest { result ≡ record { known = result.known; clock = clock.now; lost = lost.items; calls = 0; losses = 0; refused = 0 } }
+        ensures rest { result ≡ record { known = result.known; clock = clock.now; lost = lost.items; calls = 0; losses = 0; refused = 0; wants = false } }
     {
         let mut pass = pass;
         let note = pass.note(cells.table());
@@ -86,7 +88,15 @@ impl<'a, D: Disk + Drop, C: OfCluster, J: Site, T: Clock, G: Gate, R: Wait> Loca
             calls: 0,
             losses: 0,
             refused: 0,
+            wants: false,
         }
+    }
+
+    /// Whether a node said that memory was wanted.
+    pub fn wants(&self) -> bool
+        ensures { result ≡ self.now.wants }
+    {
+        self.wants
     }
 
     /// Its pass.
@@ -124,8 +134,16 @@ impl<'a, D: Disk + Drop, C: OfCluster, J: Site, T: Clock, G: Gate, R: Wait> Link
             .cells
             .call(self.rt, self.alloc, &mut self.pass, device, msg);
         self.gate.at(self.worker, GatePoint::Answered);
+        self.wants = self.wants || wants_memory(&reply);
         Some(reply)
     }
+}
+
+// Whether a node says that memory was wanted.
+fn wants_memory(reply: &Reply) -> bool
+    ensures { result ≡ wants_memory reply.now }
+{
+    matches!(reply, Reply::NoMemory)
 }
 
 impl<'a, D: Disk + Drop, C: OfCluster, J: Site, T: Clock, G: Gate, R: Wait> Draw

@@ -17,7 +17,7 @@ AnswersSoundly cluster tells shows request before result after =
 
 -- a link that was not called yet, and none of whose calls is lost
 abbrev pub fresh_link : {T : Type 0} → Known → (clock : T) → LocalModel T
-fresh_link known clock = record { known = known; clock = clock; lost = []; calls = 0; losses = 0; refused = 0 }
+fresh_link known clock = record { known = known; clock = clock; lost = []; calls = 0; losses = 0; refused = 0; wants = false }
 
 -- A connection was served by a pass over nodes behind locks: from what that knew, and has learnt since, to what it knows then.
 pub record ServesSoundly {T : Type 0} (cluster : ClusterModel) (tells : Bool) (shows : T → ℕ → Type 0) (clock : T) (left left' written written' : Option (List ℕ)) (faults faults' : ℕ) (before : Known) (end : ConnEnd) (after : Known) : Type 0 where

@@ -1,6 +1,6 @@
 //! The nodes of a cluster behind locks, over the links of one thread and of eight: disks in memory, with the built-in ring.
 
-ghost use Rattle.std.specs.Prelude.{◌≡◌, ◌≤◌, Contains, IfOk, IfSome, OnSome, Some};
+ghost use Rattle.std.specs.Prelude.{◌≡◌, ◌≤◌, Contains, IfOk, IfSome, OnSome, Some, false};
 ghost use Rattle.std.specs.List.{All};
 ghost use Rattle.sw_disk.specs.Runs.{IfTold};
 ghost use Rattle.sw_memdisk.specs.Memory.{seen_of};
@@ -20,7 +20,8 @@ use std::test::Fail;
 use std::thread::{Threads, map_vec};
 use sw_cell::{Cells, CellsFault, Site};
 use sw_daemon::pass as reconstruct;
-use sw_front::{get, put};
+use sw_delete::DeleteEnd;
+use sw_front::{delete, get, put};
 use sw_get::GetEnd;
 use sw_io::{Gate, GatePoint, MemClock, MemConn, OpenGate};
 use sw_memdisk::MemDisk;
@@ -342,6 +343,85 @@ fn repair_in<C: OfCluster, J: Site, R: Wait + Abort>(
     expect_rebuilt(rt, alloc, &one, &other, &lost, &closed)
 }
 
+// ---- a connection alone
+
+// Serves a connection over new nodes.
+fn serve_in<C: OfCluster, J: Site, R: Wait>(
+    rt: &R,
+    alloc: Global,
+    cluster: Cluster,
+    table: StampTable<C>,
+    mut pass: Pass<C>,
+    conn: &mut MemConn,
+) -> Result<ConnEnd, Fail>
+    requires cluster { cluster ≡ C.cluster }
+    requires table { (table ≡ J.table) × (pass.table ≡ J.table) }
+    requires not_closed { conn.old.is_closed ≡ false }
+{
+    let disks = new_disks(alloc, &cluster, None)?;
+    let Ok(cells) = Cells::<MemDisk, C, J>::new(alloc, cluster, table, &mut pass, disks) else {
+        return Err("not mounted".into());
+    };
+    let clock = MemClock::new(Stamp::make(START).ok_or("stamp")?);
+    let (_pass, end) = serve_connection(rt, alloc, conn, pass, &cells, &clock, &OpenGate, 0);
+    Ok(end)
+}
+
+// ---- a delete that does not reach a device
+
+// A put, a delete whose third call is lost, so that a handoff stands in, and a pass of the first device: how the delete ended, and what the pass reports.
+fn bury<C: OfCluster, J: Site, R: Wait>(
+    rt: &R,
+    alloc: Global,
+    cells: &Cells<MemDisk, C, J>,
+    pass: Pass<C>,
+    name: &Name,
+) -> Option<(Pass<C>, DeleteEnd, [u64; 3])>
+    requires { pass.table ≡ J.table }
+    ensures { IfSome result (λ one. one.0.table ≡ J.table) }
+{
+    let clock = MemClock::new(Stamp::make(START)?);
+    let ninth = vec![in alloc; 9].ok()?;
+    let mut link = LocalLink::new(rt, alloc, cells, pass, &clock, &OpenGate, 0, ninth);
+    created(alloc, cells.cluster(), &mut link, name, b"abc")?;
+    let end = delete(alloc, cells.cluster(), &mut link, name).ok()?;
+    let (pass, report) = rebuild(rt, alloc, cells, link.finish(), 0)?;
+    Some((pass, end, report))
+}
+
+fn bury_in<C: OfCluster, J: Site, R: Wait + Abort>(
+    rt: &R,
+    alloc: Global,
+    cluster: Cluster,
+    table: StampTable<C>,
+    mut pass: Pass<C>,
+) -> Result<(), Fail>
+    requires cluster { cluster ≡ C.cluster }
+    requires table { (table ≡ J.table) × (pass.table ≡ J.table) }
+{
+    let disks = new_disks(alloc, &cluster, None)?;
+    let Ok(cells) = Cells::<MemDisk, C, J>::new(alloc, cluster, table, &mut pass, disks) else {
+        return Err("not mounted".into());
+    };
+    let name = name_of(alloc, 0).ok_or("name")?;
+    let (mut pass, end, report) = bury(rt, alloc, &cells, pass, &name).ok_or("not buried")?;
+    let is_deleted = matches!(
+        &end,
+        DeleteEnd::Deleted {
+            marks: 3,
+            existed: true,
+            ..
+        }
+    );
+    assert!(rt; is_deleted);
+    assert_eq!(rt; report, [1, 0, 0]);
+    let cluster = Cluster::read(alloc, built_in())?;
+    for (_, disk) in cells.close(&mut pass) {
+        expect_files(rt, alloc, &cluster, &disk, &name, "1000000000.00001.ts ")?;
+    }
+    Ok(())
+}
+
 // ---- eight threads
 
 // What a worker is given.
@@ -563,6 +643,46 @@ fn refuse_with<C: OfCluster, R: Abort>(rt: &R, alloc: Global, cluster: Cluster) 
     refuse::<C, Brand>(rt, alloc, cluster, table, pass)
 }
 
+fn serve_with<C: OfCluster, R: Wait>(
+    rt: &R,
+    alloc: Global,
+    cluster: Cluster,
+    conn: &mut MemConn,
+) -> Result<ConnEnd, Fail>
+    requires cluster { cluster ≡ C.cluster }
+    requires not_closed { conn.old.is_closed ≡ false }
+{
+    let (table, pass) = StampTable::<C>::new(alloc, count_devices(&cluster)?)?;
+    serve_in::<C, Brand, R>(rt, alloc, cluster, table, pass, conn)
+}
+
+fn bury_with<C: OfCluster, R: Wait + Abort>(
+    rt: &R,
+    alloc: Global,
+    cluster: Cluster,
+) -> Result<(), Fail>
+    requires { cluster ≡ C.cluster }
+{
+    let (table, pass) = StampTable::<C>::new(alloc, count_devices(&cluster)?)?;
+    bury_in::<C, Brand, R>(rt, alloc, cluster, table, pass)
+}
+
+/// Serves a connection over new nodes of the built-in ring.
+pub(crate) fn serve_alone<R: Wait>(
+    rt: &R,
+    alloc: Global,
+    conn: &mut MemConn,
+) -> Result<ConnEnd, Fail>
+    requires { conn.old.is_closed ≡ false }
+{
+    let cluster = Cluster::read(alloc, built_in())?;
+    serve_with::<Brand, R>(rt, alloc, cluster, conn)
+}
+
+fn bury_on<R: Wait + Abort>(rt: &R, alloc: Global, cluster: Cluster) -> Result<(), Fail> {
+    bury_with::<Brand, R>(rt, alloc, cluster)
+}
+
 fn refuse_on<R: Abort>(rt: &R, alloc: Global, cluster: Cluster) -> Result<(), Fail> {
     refuse_with::<Brand, R>(rt, alloc, cluster)
 }
@@ -589,6 +709,12 @@ fn refuses_a_disk_that_fails(rt: HostRuntime) -> Result<(), Fail> {
 fn rebuilds_what_a_replaced_disk_lost(rt: HostRuntime) -> Result<(), Fail> {
     let cluster = Cluster::read(rt.alloc(), built_in())?;
     repair_on(&rt, rt.alloc(), cluster)
+}
+
+#[test]
+fn buries_what_a_lost_call_left(rt: HostRuntime) -> Result<(), Fail> {
+    let cluster = Cluster::read(rt.alloc(), built_in())?;
+    bury_on(&rt, rt.alloc(), cluster)
 }
 
 #[test]

@@ -1,25 +1,23 @@
-//! Connections over nodes on disks in memory, with the built-in ring.
+//! Connections over nodes behind locks, on disks in memory, with the built-in ring.
 
-use crate::{ConnEnd, serve_over};
+use crate::ConnEnd;
+use crate::over_cells::serve_alone;
 use std::alloc::Global;
 use std::process::Abort;
+use std::sync::Wait;
 use std::test::Fail;
 use sw_io::MemConn;
-use sw_ring::{Cluster, built_in};
-use sw_telling::Telling;
-use sw_types::{Bytes, Stamp};
+use sw_types::Bytes;
 
 // How a connection ends on which these bytes come, so many at a time, over new nodes, and what is written. Where calls are told, those
 // behind so many fail.
 fn serve(
+    rt: &impl Wait,
     alloc: Global,
     bytes: &[u8],
     most: usize,
     calls: Option<u64>,
 ) -> Result<(ConnEnd, Bytes), Fail> {
-    let cluster = Cluster::read(alloc, built_in())?;
-    let clock = Stamp::make(100_000_000_000_000).ok_or("stamp")?;
-    let mut link = Telling::new(alloc, &cluster, clock)?;
     let mut conn = MemConn::new(alloc, bytes.to_vec(alloc)?);
     if most > 0 {
         conn.give_at_most(most);
@@ -27,19 +25,19 @@ fn serve(
     if let Some(calls) = calls {
         conn.fuse(calls);
     }
-    let end = serve_over(alloc, &mut conn, &cluster, &mut link);
+    let end = serve_alone(rt, alloc, &mut conn)?;
     Ok((end, Bytes::from_slice(alloc, conn.written())?))
 }
 
 fn expect_served(
-    rt: &impl Abort,
+    rt: &(impl Wait + Abort),
     alloc: Global,
     text: &str,
     end: ConnEnd,
     want: &str,
 ) -> Result<(), Fail> {
     for most in [1, 7, 65_536] {
-        let (ended, written) = serve(alloc, text.as_bytes(), most, None)?;
+        let (ended, written) = serve(rt, alloc, text.as_bytes(), most, None)?;
         assert_eq!(rt; ended, end, "of {text:?}");
         assert_eq!(rt; written.as_slice(), want.as_bytes(), "of {text:?}");
     }
@@ -121,13 +119,13 @@ fn ends_within_a_request(rt: HostRuntime) -> Result<(), Fail> {
         (2, ConnEnd::ReadFault, leave),
     ];
     for (calls, end, want) in cases {
-        let (ended, written) = serve(alloc, head.as_bytes(), 65_536, Some(calls))?;
+        let (ended, written) = serve(&rt, alloc, head.as_bytes(), 65_536, Some(calls))?;
         assert_eq!(rt; ended, end);
         assert_eq!(rt; written.as_slice(), want.as_bytes());
     }
     // An answer is written before the next head is waited for: a read, a write of its head and its body, a read.
     let get = b"GET /v1/a/c/o HTTP/1.1\r\nHost: h\r\n\r\n";
-    let (ended, written) = serve(alloc, get, 65_536, Some(2))?;
+    let (ended, written) = serve(&rt, alloc, get, 65_536, Some(2))?;
     assert_eq!(rt; ended, ConnEnd::ReadFault);
     let absent =
         "HTTP/1.1 404 Not Found\r\nContent-Length: 7\r\nContent-Type: text/plain\r\n\r\nAbsent\n";
@@ -155,7 +153,7 @@ fn a_thousand_requests(rt: HostRuntime) -> Result<(), Fail> {
             want.extend_from_slice(answer.as_bytes())?;
         }
     }
-    let (ended, written) = serve(alloc, &text, 65_536, None)?;
+    let (ended, written) = serve(&rt, alloc, &text, 65_536, None)?;
     assert_eq!(rt; ended, ConnEnd::Closed);
     assert_eq!(rt; written.as_slice(), want.as_slice());
     Ok(())

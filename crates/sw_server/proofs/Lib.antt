@@ -1,3 +1,9 @@
-mod Openings
+mod Comings
+mod Endings
+mod Going
+mod HandingBack
+mod HandingOut
+mod Lasting
+mod Opened
+mod Refusing
 mod Rounds
-mod Visitors

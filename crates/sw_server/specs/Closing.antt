@@ -1,17 +1,34 @@
 -- How a server is closed, once no connection comes any more.
-use Rattle.std.specs.Prelude.{◌≡◌, ℕ, Bool, true, false, List, []}
-use Rattle.sw_ring.specs.Cluster.{ClusterModel}
-use Rattle.sw_front.specs.Answering.{Ways}
+use Rattle.std.specs.Prelude.{◌≡◌, ℕ, Bool, true, false, codes, List, [], ◌∷◌, ◌++◌}
+use Rattle.std.specs.Fmt.{decimal}
+use Rattle.sw_ring.specs.Cluster.{ClusterModel, ids_of}
+use Rattle.sw_pass.specs.declared.known.Known.{Known}
+use Rattle.sw_cell.specs.Learning.{HasLearnt}
+use Rattle.sw_local.specs.Link.{LocalModel}
+use Rattle.sw_law_served.specs.Served.{local_ways}
 use Rattle.sw_serve.specs.Serving.{IsProperFront}
-use Rattle.sw_direct.specs.Direct.{DirectModel}
-use Rattle.sw_server.specs.Sessions.{RunLast, closed_text}
+use Rattle.sw_serve.specs.Soundly.{fresh_link}
+use Rattle.sw_server.specs.Passes.{RunPasses}
 use Rattle.sw_server.specs.declared.end.ServeEnd.{ServeEnd}
 use Rattle.sw_server.specs.declared.end.ServeEnd.TheVariants.{Closed, NoMemory, WriteFault}
 
-module _ {D C : Type 0} (ways : Ways (DirectModel D C)) (cluster : ClusterModel) where
-  -- The last passes ran, and the number of connections was written, or a front of its line, or none where memory was wanted.
-  abbrev pub Closes : (count : ℕ) → (before : DirectModel D C) → ServeEnd → (after : DirectModel D C) → (told : List ℕ) → Type 0
-  Closes count before (Closed told_count) after told = RunLast ways cluster true before after × (after.wants ≡ false) × (told_count ≡ count) × (told ≡ closed_text count)
-  Closes count before WriteFault after told = RunLast ways cluster true before after × (after.wants ≡ false) × IsProperFront told (closed_text count)
-  Closes count before NoMemory after told = (told ≡ []) × (is_whole : Bool) × RunLast ways cluster is_whole before after
+abbrev pub closed_text : (count : ℕ) → List ℕ
+closed_text count = codes "closed " ++ decimal count ++ 10 ∷ []
+
+module _ {T : Type 0} (cluster : ClusterModel) (tells : Bool) (shows : T → ℕ → Type 0) (clock : T) where
+  -- The last passes ran, one of each device, over a link that no call was lost of: from what a seat knew, and has learnt since, to what it knows then.
+  pub record RunLast (is_whole none_wants : Bool) (before after : Known) : Type 0 where
+    pub first : Known
+    pub learnt : first.crowded ≡ false → HasLearnt cluster before first
+    pub last : LocalModel T
+    pub last_is : last.known ≡ after
+    pub passes : RunPasses (local_ways cluster tells shows) cluster (ids_of cluster) is_whole (fresh_link first clock) last
+    pub wants : none_wants ≡ true → last.wants ≡ false
+
+  -- They ran to their ends and without a node's want of memory, and the number of connections was written, or a front of its line, or none where
+  -- memory was wanted.
+  abbrev pub Closes : (count : ℕ) → (before : Known) → ServeEnd → (after : Known) → (told : List ℕ) → Type 0
+  Closes count before (Closed told_count) after told = RunLast true true before after × (told_count ≡ count) × (told ≡ closed_text count)
+  Closes count before WriteFault after told = RunLast true true before after × IsProperFront told (closed_text count)
+  Closes count before NoMemory after told = (told ≡ []) × (is_whole : Bool) × RunLast is_whole false before after
   Closes count before other after told = ⊥

@@ -1,5 +1,8 @@
+pub mod Acceptor
 pub mod Closing
+pub mod Ending
 pub mod Passes
+pub mod Served
 pub mod Sessions
-pub mod Stops
+pub mod Shelving
 pub mod Visits

@@ -1,17 +1,22 @@
--- Serving over nodes on a shelf's disks, from the mounting of the disks to their return.
-use Rattle.std.specs.Prelude.{◌≡◌, ◌⊎◌, ℕ, Bool, true, false, codes, if◌then◌else◌, List, [], ◌∷◌, ◌++◌, length, Option, Some, None, ⊤}
-use Rattle.std.specs.Fmt.{decimal}
-use Rattle.sw_words.specs.Counts.{last_count, one_more}
-use Rattle.sw_disk.specs.Runs.{Past, Seen}
-use Rattle.sw_ring.specs.Cluster.{ClusterModel, ids_of}
+-- Serving over a shelf's disks, from their mounting to their return.
+use Rattle.std.specs.Prelude.{◌≡◌, ◌≢◌, ◌⊎◌, ℕ, Bool, true, false, codes, List, [], ◌∷◌, ◌++◌, length, ⊤}
+use Rattle.std.specs.List.{All}
+use Rattle.sw_words.specs.Counts.{one_more}
+use Rattle.sw_ring.specs.Cluster.{ClusterModel}
 use Rattle.sw_shelf.specs.Shelf.{with_all}
-use Rattle.sw_objsrv.specs.Node.{NodeModel}
-use Rattle.sw_front.specs.Answering.{Ways}
+use Rattle.sw_pass.specs.declared.known.Known.{Known}
+use Rattle.sw_cell.specs.Learning.{HasLearnt}
+use Rattle.sw_cell.specs.Standing.{IsDiskOf}
 use Rattle.sw_serve.specs.Serving.{IsProperFront}
-use Rattle.sw_direct.specs.Direct.{AreNodes, Calls, DirectModel, Draws}
-use Rattle.sw_direct.specs.Mounted.{AreMounted, CameBack, Handing, disks_of, with_faults}
-use Rattle.sw_server.specs.Passes.{RunPasses}
-use Rattle.sw_server.specs.Visits.{AllWent, AreTreated, Come, ConnMembers, DoorsMembers, MostWent, Visit}
+use Rattle.sw_server.specs.Acceptor.{HasServed}
+use Rattle.sw_server.specs.Closing.{RunLast, closed_text}
+use Rattle.sw_server.specs.Ending.{IsStop}
+use Rattle.sw_server.specs.Served.{GoesOn, Serving}
+use Rattle.sw_server.specs.Shelving.{AreHanded, CameBack, ShelfMembers, with_faults}
+use Rattle.sw_server.specs.Visits.{DoorsMembers, DoorsSeen, seen_of}
+use Rattle.sw_server.specs.declared.acceptor.DoorsState.TheVariants.{Open}
+use Rattle.sw_server.specs.declared.end.Stop.{Stop}
+use Rattle.sw_server.specs.declared.end.Stop.TheVariants as stop
 use Rattle.sw_server.specs.declared.end.ServeEnd.{ServeEnd}
 use Rattle.sw_server.specs.declared.end.ServeEnd.TheVariants.{Closed, DoorFault, NoMemory, ShelfFault, WriteFault}
 
@@ -19,9 +24,6 @@ use Rattle.sw_server.specs.declared.end.ServeEnd.TheVariants.{Closed, DoorFault,
 
 abbrev pub ready_text : List ℕ
 ready_text = codes "ready" ++ 10 ∷ []
-
-abbrev pub closed_text : (count : ℕ) → List ℕ
-closed_text count = codes "closed " ++ decimal count ++ 10 ∷ []
 
 -- ---- counts of faults
 
@@ -39,57 +41,51 @@ after_output other count = count
 
 -- ---- serving over nodes
 
--- the ways of a cluster's nodes as a link, on such disks and by such a clock
-abbrev pub node_ways : {D C : Type 0} → (D → Seen) → (D → Past) → (C → ℕ → Type 0) → Ways (DirectModel D C)
-node_ways seen left_since shows = record { draws = Draws shows; calls = Calls seen left_since; losses = λ it. 0; refusals = λ it. it.refused; learnt = λ it. None; may_be_silent = λ it. ⊥ }
+-- what contracts see of doors that were opened at a port
+abbrev pub opened_at : (port : ℕ) → DoorsSeen → DoorsSeen
+opened_at port before = record before { ports = port ∷ [] }
 
-module _ {D C : Type 0} (ways : Ways (DirectModel D C)) (cluster : ClusterModel) where
-  -- The last passes ran, one of each device, from nodes none of which has wanted memory yet.
-  abbrev pub RunLast : (is_whole : Bool) → (before after : DirectModel D C) → Type 0
-  RunLast is_whole before after = RunPasses ways cluster (ids_of cluster) is_whole (record before { wants = false }) after
+-- what they see of doors that failed to open there
+abbrev pub unopened_at : (port : ℕ) → DoorsSeen → DoorsSeen
+unopened_at port before = record before { ports = port ∷ []; faults = one_more before.faults }
 
-module _ {D C A N : Type 0} (ways : Ways (DirectModel D C)) (doors : DoorsMembers A N) (conns : ConnMembers N) (cluster : ClusterModel) where
-  abbrev Nodes : Type 0
-  Nodes = DirectModel D C
+module _ {A N T : Type 0} (doors : DoorsMembers A N) (serving : Serving N T) (clock : T) (port : ℕ) (before : A) where
+  abbrev began : DoorsSeen
+  began = opened_at port (seen_of doors serving.conns before)
 
-  -- All connections came and went, and behind them ran the last passes, to their ends and without a node's want of memory.
-  pub record IsDone (visits : List (Visit N)) (before after : A) (between last : Nodes) : Type 0 where
-    pub went : AllWent doors visits before after
-    pub passes : RunLast ways cluster true between last
-    pub none_wants : last.wants ≡ false
+  -- why no other connection is served, how the doors stand, and what is known then
+  abbrev pub Stops : Stop → (after : A) → (known : Known) → Type 0
+  Stops why after known = IsStop doors serving (serving.shows clock) began why after known
 
-  -- Behind these connections the server ended like this; what the doors are, which nodes are left, and what was written.
-  abbrev pub IsEnd : ServeEnd → List (Visit N) → (before after : A) → (between last : Nodes) → (told : List ℕ) → Type 0
-  IsEnd (Closed count) visits before after between last told = IsDone visits before after between last × (count ≡ length visits) × (told ≡ ready_text ++ closed_text count)
-  IsEnd DoorFault visits before after between last told =
-      MostWent doors visits before after × (last ≡ between)
-      × (((doors.is_open after ≡ false) × (visits ≡ []) × (told ≡ [])) ⊎ ((doors.is_open after ≡ true) × (told ≡ ready_text)))
-  IsEnd WriteFault visits before after between last told =
-      (MostWent doors visits before after × (last ≡ between) × (visits ≡ []) × IsProperFront told ready_text)
-      ⊎ (IsDone visits before after between last × (front : List ℕ) × IsProperFront front (closed_text (length visits)) × (told ≡ ready_text ++ front))
-  IsEnd NoMemory visits before after between last told =
-      (told ≡ ready_text) × (((length visits ≡ last_count) × MostWent doors visits before after × (last ≡ between)) ⊎ (AllWent doors visits before after × (is_whole : Bool) × RunLast ways cluster is_whole between last))
-  IsEnd ShelfFault visits before after between last told = ⊥
+  -- No connection came through the doors yet.
+  abbrev pub IsUnvisited : (after : A) → (known : Known) → Type 0
+  IsUnvisited after known = HasServed doors serving (serving.shows clock) began after Open 0 0 known
 
-  -- The doors were opened at the port; connections came through them and were served over the nodes, one behind the other.
-  pub record ServesOver (port : ℕ) (before : A) (first : Nodes) (end : ServeEnd) (after : A) (last : Nodes) (told : List ℕ) : Type 0 where
-    pub ports : doors.ports after ≡ port ∷ []
-    pub visits : List (Visit N)
-    pub come : Come doors visits before after
-    pub between : Nodes
-    pub treated : AreTreated conns ways cluster visits first between
-    pub ends : IsEnd end visits before after between last told
+  abbrev pub RunsLast : (is_whole none_wants : Bool) → (known last : Known) → Type 0
+  RunsLast is_whole none_wants known last = RunLast serving.cluster serving.tells serving.shows clock is_whole none_wants known last
+
+  -- The server ended like this; what the doors are, what was known as no other connection was served, and at last, and what was written.
+  abbrev pub IsEnd : ServeEnd → (after : A) → (known last : Known) → (told : List ℕ) → Type 0
+  IsEnd (Closed count) after known last told = Stops (stop.Ended count) after known × RunsLast true true known last × (told ≡ ready_text ++ closed_text count)
+  IsEnd DoorFault after known last told =
+      (last ≡ known)
+      × (((doors.is_open after ≡ false) × (seen_of doors serving.conns after ≡ unopened_at port (seen_of doors serving.conns before)) × (told ≡ []))
+      ⊎ (Stops stop.Failed after known × (told ≡ ready_text)))
+  IsEnd WriteFault after known last told =
+      ((last ≡ known) × IsUnvisited after known × IsProperFront told ready_text)
+      ⊎ ((count : ℕ) × Stops (stop.Ended count) after known × RunsLast true true known last × (front : List ℕ) × IsProperFront front (closed_text count) × (told ≡ ready_text ++ front))
+  IsEnd NoMemory after known last told =
+      (told ≡ ready_text)
+      × (((last ≡ known) × Stops stop.NoMemory after known) ⊎ ((count : ℕ) × Stops (stop.Ended count) after known × (is_whole : Bool) × RunsLast is_whole false known last))
+  IsEnd ShelfFault after known last told = ⊥
+
+  -- Connections were served over nodes up to this end: what was known as no other one was served is known at last.
+  pub record ServesOver (end : ServeEnd) (after : A) (last : Known) (told : List ℕ) : Type 0 where
+    pub known : Known
+    pub ends : IsEnd end after known last told
+    pub goes_on : GoesOn last known
 
 -- ---- serving over a shelf
-
--- what contracts see of a kind of shelf, with its disks
-pub record ShelfMembers (S D : Type 0) : Type 1 where
-  pub hands : Handing S D
-  pub out : S → ℕ
-  pub returned : S → Option (List (ℕ × D))
-  pub faults : S → ℕ
-  pub seen : D → Seen
-  pub left_since : D → Past
 
 -- the shelf failed, or memory was wanted
 abbrev pub IsUnready : ServeEnd → Type 0
@@ -97,27 +93,32 @@ IsUnready ShelfFault = ⊤
 IsUnready NoMemory = ⊤
 IsUnready other = ⊥
 
--- The disks were not all handed out and mounted: those that were are back, the doors are as they were, and nothing was written.
-pub record IsUnmounted {S D A : Type 0} (shelf : ShelfMembers S D) (cluster : ClusterModel) (stock : S) (before : A) (end : ServeEnd) (stock' : S) (after : A) (told : List ℕ) : Type 0 where
-  pub cause : IsUnready end
-  pub came_back : CameBack shelf.seen shelf.left_since shelf.hands cluster (shelf.returned stock) (shelf.returned stock')
-  pub faults : shelf.faults stock' ≡ after_shelf end (shelf.faults stock)
-  pub untouched : after ≡ before
-  pub nothing : told ≡ []
+module _ {S D A N T : Type 0} (shelf : ShelfMembers S D) (doors : DoorsMembers A N) (serving : Serving N T) (clock : T) (port : ℕ) (stock : S) (before : A) where
+  -- The disks were not all handed out and mounted: the doors are as they were, and nothing was written. Unless memory was wanted the disks are back.
+  pub record IsUnmounted (end : ServeEnd) (stock' : S) (after : A) (told : List ℕ) : Type 0 where
+    pub cause : IsUnready end
+    pub came_back : end ≢ NoMemory → CameBack shelf serving.cluster stock stock'
+    pub faults : shelf.faults stock' ≡ after_shelf end (shelf.faults stock)
+    pub untouched : after ≡ before
+    pub nothing : told ≡ []
 
-module _ {S D C A N : Type 0} (shelf : ShelfMembers S D) (shows : C → ℕ → Type 0) (doors : DoorsMembers A N) (conns : ConnMembers N) (cluster : ClusterModel) where
-  -- The disks were mounted, connections were served over their nodes, and the disks went back.
-  pub record Session (clock : C) (port : ℕ) (stock : S) (before : A) (end : ServeEnd) (stock' : S) (after : A) (told : List ℕ) : Type 0 where
-    pub nodes : List (NodeModel D)
-    pub mounted : AreMounted shelf.seen shelf.left_since shelf.hands cluster cluster.devices nodes
-    pub are : AreNodes shelf.seen cluster nodes
-    pub last : DirectModel D C
-    pub serves : ServesOver (node_ways shelf.seen shelf.left_since shows) doors conns cluster port before (record { cluster = cluster; clock = clock; nodes = nodes; last = None; refused = 0; wants = false }) end after last told
-    pub returned : shelf.returned stock' ≡ with_all (shelf.returned stock) (disks_of last.nodes)
-    pub faults : shelf.faults stock' ≡ with_faults shelf.seen (shelf.faults stock) last.nodes
+  -- The disks were mounted, connections were served over their nodes, and the disks went back. What is known then is sound, goes on
+  -- from all that was known before, and the disks are what it replays to.
+  pub record Session (end : ServeEnd) (stock' : S) (after : A) (told : List ℕ) : Type 0 where
+    pub given : List D
+    pub handed : AreHanded shelf.seen shelf.hands serving.cluster.devices given
+    pub last : Known
+    pub serves : ServesOver doors serving clock port before end after last told
+    pub final : Known
+    pub learnt : final.crowded ≡ false → HasLearnt serving.cluster last final
+    pub back : List (ℕ × D)
+    pub each : length back ≡ length serving.cluster.devices
+    pub disks : final.crowded ≡ false → All (λ one. IsDiskOf serving.cluster shelf.seen final one.0 one.1) back
+    pub returned : shelf.returned stock' ≡ with_all (shelf.returned stock) back
+    pub faults : shelf.faults stock' ≡ with_faults shelf.seen (shelf.faults stock) back
+    pub none_out : shelf.out stock' ≡ 0
 
-  -- What a server did, however it ended: no disk is out any more, and the doors' count of faults rose at their own failure alone.
-  pub record IsServer (clock : C) (port : ℕ) (stock : S) (before : A) (end : ServeEnd) (stock' : S) (after : A) (told : List ℕ) : Type 0 where
-    pub did : Session clock port stock before end stock' after told ⊎ IsUnmounted shelf cluster stock before end stock' after told
-    pub all_back : shelf.out stock' ≡ 0
+  -- What a server did, however it ended: the doors' count of faults rose at their own failure alone.
+  pub record IsServer (end : ServeEnd) (stock' : S) (after : A) (told : List ℕ) : Type 0 where
+    pub did : Session end stock' after told ⊎ IsUnmounted end stock' after told
     pub door_faults : doors.faults after ≡ after_doors end (doors.faults before)

@@ -1,13 +1,6 @@
--- Connections that come through doors, are served one behind the other, and go back.
-use Rattle.std.specs.Prelude.{◌≡◌, ◌≤◌, ℕ, Bool, true, false, List, [], ◌∷◌, ◌++◌, length, map, Option, Some, None, IfSome, ⊤}
+-- Connections that come through doors, and what contracts see of doors.
+use Rattle.std.specs.Prelude.{◌≡◌, ℕ, zero, suc, Bool, false, List, [], ◌++◌, length, map, Option, Some, None, option_map, IfSome}
 use Rattle.sw_words.specs.Counts.{one_more}
-use Rattle.sw_ring.specs.Cluster.{ClusterModel, ids_of}
-use Rattle.sw_shelf.specs.Shelf.{with_all}
-use Rattle.sw_front.specs.Answering.{Answers, Ways}
-use Rattle.sw_serve.specs.Ends.{CountsEnd}
-use Rattle.sw_serve.specs.Serving.{Serves}
-use Rattle.sw_serve.specs.declared.end.ConnEnd.{ConnEnd}
-use Rattle.sw_server.specs.Passes.{RunPasses}
 
 -- what contracts see of a kind of connections
 pub record ConnMembers (N : Type 0) : Type 0 where
@@ -25,81 +18,47 @@ pub record DoorsMembers (A N : Type 0) : Type 0 where
   pub left : A → Option (List N)
   pub faults : A → ℕ
 
--- a connection, as it came and as it was left
-pub record Visit (N : Type 0) : Type 0 where
-  pub came : N
-  pub went : N
-
-abbrev pub came_of : {N : Type 0} → List (Visit N) → List N
-came_of {N} visits = map (λ (visit : Visit N). visit.came) visits
-
-abbrev pub went_of : {N : Type 0} → List (Visit N) → List N
-went_of {N} visits = map (λ (visit : Visit N). visit.went) visits
-
--- ---- what was done for them
-
 -- nothing was written to it yet
 pub record IsFresh {N : Type 0} (conns : ConnMembers N) (conn : N) : Type 0 where
   pub no_fault : conns.faults conn ≡ 0
   pub not_closed : conns.closed conn ≡ false
   pub not_written : IfSome (conns.written conn) (λ bytes. bytes ≡ [])
 
-module _ {N L : Type 0} (conns : ConnMembers N) (ways : Ways L) (cluster : ClusterModel) where
-  -- It came as new, was served over the link up to an end, and was left closed.
-  pub record IsServed (visit : Visit N) (before after : L) : Type 0 where
-    pub fresh : IsFresh conns visit.came
-    pub end : ConnEnd
-    pub serves : Serves (Answers ways cluster) (conns.remaining visit.came) (conns.remaining visit.went) (conns.written visit.came) (conns.written visit.went) (conns.faults visit.came) (conns.faults visit.went) before end after
-    pub counts : CountsEnd end (conns.faults visit.came) (conns.faults visit.went)
-    pub closed : conns.closed visit.went ≡ true
+-- ---- doors, whatever kind they are
 
-  -- And behind it ran a pass of each device, as far as there was memory.
-  pub record IsTreated (visit : Visit N) (before after : L) : Type 0 where
-    pub between : L
-    pub served : IsServed visit before between
-    pub is_whole : Bool
-    pub passes : RunPasses ways cluster (ids_of cluster) is_whole between after
+-- the bytes that come on a connection, where it tells
+abbrev pub Bytes : Type 0
+Bytes = Option (List ℕ)
 
-  -- They were treated so, one behind the other.
-  abbrev pub AreTreated : List (Visit N) → (before after : L) → Type 0
-  AreTreated [] before after = after ≡ before
-  AreTreated (visit ∷ visits) before after = (between : L) × IsTreated visit before between × AreTreated visits between after
+pub record DoorsSeen : Type 0 where
+  pub ports : List ℕ
+  pub handed : ℕ
+  pub faults : ℕ
+  -- how many connections are back, and the bytes that come on each of those that are left, where the doors tell
+  pub back : Option ℕ
+  pub left : Option (List Bytes)
 
--- ---- what the doors tell of them
+-- the bytes of the connections that are left
+abbrev pub bytes_left : {N : Type 0} → ConnMembers N → Option (List N) → Option (List Bytes)
+bytes_left {N} conns left = option_map (λ (all : List N). map (λ (conn : N). conns.remaining conn) all) left
 
--- the count of connections that were handed out, after these
-abbrev pub handed_with : {N : Type 0} → ℕ → List (Visit N) → ℕ
-handed_with count [] = count
-handed_with count (visit ∷ visits) = handed_with (one_more count) visits
+abbrev pub count_back : {N : Type 0} → Option (List N) → Option ℕ
+count_back {N} back = option_map (λ (all : List N). length all) back
 
--- those that came were the first of those that were left
-abbrev pub ComeFrom : {N : Type 0} → Option (List N) → Option (List N) → List N → Type 0
-ComeFrom None left' came = left' ≡ None
-ComeFrom {N} (Some left) left' came = (rest : List N) × (left ≡ came ++ rest) × (left' ≡ Some rest)
+abbrev pub seen_of : {A N : Type 0} → DoorsMembers A N → ConnMembers N → A → DoorsSeen
+seen_of doors conns it = record { ports = doors.ports it; handed = doors.handed it; faults = doors.faults it; back = count_back (doors.back it); left = bytes_left conns (doors.left it) }
 
--- They are back as they were left, in the order in which they came; but the last may be lost.
-pub record AreMostBack {N : Type 0} (back back' : Option (List N)) (visits : List (Visit N)) : Type 0 where
-  pub kept : List (Visit N)
-  pub lost : List (Visit N)
-  pub few : length lost ≤ 1
-  pub visits_are : visits ≡ kept ++ lost
-  pub back_is : back' ≡ with_all back (went_of kept)
+-- a count once so many more were counted
+abbrev pub counted_with : (count more : ℕ) → ℕ
+counted_with count zero = count
+counted_with count (suc more) = one_more (counted_with count more)
 
--- All are back, and none is left.
-pub record AreAllBack {N : Type 0} (left' back back' : Option (List N)) (visits : List (Visit N)) : Type 0 where
-  pub none_left : IfSome left' (λ left. left ≡ [])
-  pub back_is : back' ≡ with_all back (went_of visits)
+-- so many came, the first of those that were left
+abbrev pub HaveCome : (left left' : Option (List Bytes)) → (count : ℕ) → Type 0
+HaveCome None left' count = left' ≡ None
+HaveCome (Some all) left' count = (came : List Bytes) × (rest : List Bytes) × (all ≡ came ++ rest) × (length came ≡ count) × (left' ≡ Some rest)
 
-module _ {A N : Type 0} (doors : DoorsMembers A N) where
-  -- Through the doors came these connections.
-  pub record Come (visits : List (Visit N)) (before after : A) : Type 0 where
-    pub came : ComeFrom (doors.left before) (doors.left after) (came_of visits)
-    pub handed : doors.handed after ≡ handed_with (doors.handed before) visits
-
-  -- no other one comes, and all went back
-  abbrev pub AllWent : List (Visit N) → (before after : A) → Type 0
-  AllWent visits before after = AreAllBack (doors.left after) (doors.back before) (doors.back after) visits
-
-  -- they went back, but the last of them may be lost
-  abbrev pub MostWent : List (Visit N) → (before after : A) → Type 0
-  MostWent visits before after = AreMostBack (doors.back before) (doors.back after) visits
+-- these were taken back behind so many others, in this order
+abbrev pub AreBack : {N : Type 0} → (before : Option ℕ) → (back : Option (List N)) → (went : List N) → Type 0
+AreBack None back went = back ≡ None
+AreBack {N} (Some number) back went = (earlier : List N) × (length earlier ≡ number) × (back ≡ Some (earlier ++ went))

@@ -14,3 +14,14 @@ pub enum ServeEnd {
     /// The doors failed, and their count of faults rose.
     DoorFault,
 }
+
+/// Why no other connection is served.
+#[derive(Clone, Copy, Debug, PartialEq, Eq)]
+pub(crate) enum Stop {
+    /// So many came and went, and none comes any more.
+    Ended { count: u64 },
+    /// The doors failed, and their count of faults rose.
+    Failed,
+    /// As many came or went as can be counted.
+    NoMemory,
+}

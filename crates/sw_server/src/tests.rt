@@ -1,19 +1,25 @@
 //! A server over a shelf, doors and an output in memory.
 
-ghost use Rattle.std.specs.Prelude.{◌≡◌, [], IfOk, ⊤};
+ghost use Rattle.std.specs.Prelude.{◌≡◌, ◌≤◌, [], IfOk, ⊤};
 
+use crate::gates::{NotingGate, RaceGate, RepairGate};
 use crate::{ServeEnd, serve};
 use std::alloc::Global;
-use std::cell::Cell;
 use std::process::Abort;
+use std::sync::Wait;
+use std::sync::atomic::{AtomicU64, Ordering};
 use std::test::Fail;
-use sw_io::{Clock, Gate, GatePoint, MemClock, MemConn, MemDoors, MemSink, OpenGate};
+use std::thread::Threads;
+use sw_io::{Clock, Gate, MemClock, MemConn, MemDoors, MemSink, OpenGate};
 use sw_memshelf::MemShelf;
 use sw_ring::{Cluster, built_in};
 use sw_types::Stamp;
 
 const PUT: &str =
     "PUT /v1/AUTH_test/photos/cat.jpg HTTP/1.1\r\nHost: h\r\nContent-Length: 3\r\n\r\nabc";
+
+const OTHER: &str =
+    "PUT /v1/AUTH_test/photos/dog.jpg HTTP/1.1\r\nHost: h\r\nContent-Length: 3\r\n\r\nabc";
 
 const GET: &str = "GET /v1/AUTH_test/photos/cat.jpg HTTP/1.1\r\nHost: h\r\n\r\n";
 
@@ -50,45 +56,31 @@ struct Served {
 // A clock that goes on by a second whenever it is looked at.
 #[derive(Drop)]
 struct TickingClock {
-    next: Cell<Stamp>,
+    start: Stamp,
+    next: AtomicU64,
 }
 
 impl Clock for TickingClock {
     ghost shows = { λ clock stamp. ⊤ };
 
     fn now(&self) -> Stamp {
-        let stamp = self.next.get();
-        let units = stamp.units().saturating_add(100_000);
-        self.next.set(Stamp::make(units).unwrap_or(stamp));
-        stamp
+        let units = self.next.fetch_add(100_000, Ordering::SeqCst);
+        Stamp::make(units).unwrap_or(self.start)
     }
 }
 
-// A gate that counts how often a worker came to each of its points.
-#[derive(Drop)]
-struct NotingGate {
-    accepted: Cell<u32>,
-    other: Cell<u32>,
-}
-
-impl Gate for NotingGate {
-    fn at(&self, worker: u16, point: GatePoint) {
-        let count = match point {
-            GatePoint::Accepted if worker == 0 => &self.accepted,
-            _ => &self.other,
-        };
-        count.set(count.get().saturating_add(1));
-    }
-}
-
-// Serves the built-in ring, with these requests on a connection each, where this fails.
-fn serve_requests<C: Clock, G: Gate>(
+// Serves the built-in ring by so many workers, with these requests on a connection each, where this fails.
+fn serve_requests<T: Clock + Send + Sync, G: Gate + Sync, R: Threads + Wait + Sync>(
+    rt: &R,
     alloc: Global,
     requests: [&str; 2],
+    workers: u16,
     failing: Failing,
-    clock: &C,
+    clock: &T,
     gate: &G,
-) -> Result<Served, Fail> {
+) -> Result<Served, Fail>
+    requires { (1 ≤ workers) × (workers ≤ 16) }
+{
     let cluster = Cluster::read(alloc, built_in())?;
     let mut output = MemSink::new(alloc);
     let mut shelf = MemShelf::new(alloc);
@@ -99,9 +91,11 @@ fn serve_requests<C: Clock, G: Gate>(
     let (device, number) = failing.broken;
     shelf.fail_at(device, vec![in alloc; number]?);
     let end = serve(
+        rt,
         alloc,
-        &cluster,
+        cluster,
         8080,
+        workers,
         &mut output,
         &mut shelf,
         &mut doors,
@@ -131,22 +125,17 @@ fn beginning() -> Result<Stamp, Fail> {
     Ok(Stamp::make(100_000_000_000_000).ok_or("stamp")?)
 }
 
-// Compares the end of a put and a get behind it, what is written, and how many connections and disks are back.
-fn expect_served(
-    rt: &impl Abort,
+// Compares the end of a put and a get behind it by one worker, what is written, and how many connections and disks are back.
+fn expect_served<R: Threads + Wait + Sync + Abort>(
+    rt: &R,
     alloc: Global,
     failing: Failing,
     end: ServeEnd,
     text: &str,
     back: (usize, usize),
 ) -> Result<(), Fail> {
-    let served = serve_requests(
-        alloc,
-        [PUT, GET],
-        failing,
-        &MemClock::new(beginning()?),
-        &OpenGate,
-    )?;
+    let clock = MemClock::new(beginning()?);
+    let served = serve_requests(rt, alloc, [PUT, GET], 1, failing, &clock, &OpenGate)?;
     assert_eq!(rt; served.end, end, "with {failing:?}");
     assert_eq!(rt; served.output.bytes(), text.as_bytes(), "with {failing:?}");
     assert_eq!(rt;
@@ -164,58 +153,41 @@ fn expect_served(
 #[test]
 fn serves_up_to_the_last_connection_or_a_failure(rt: HostRuntime) -> Result<(), Fail> {
     let closed = ServeEnd::Closed { count: 2 };
+    let none = NOTHING;
     let cases = [
-        (NOTHING, closed, "ready\nclosed 2\n", (2, 4)),
+        (none, closed, "ready\nclosed 2\n", (2, 4)),
         (
-            Failing {
-                writes: 0,
-                ..NOTHING
-            },
+            Failing { writes: 0, ..none },
             ServeEnd::WriteFault,
             "",
             (0, 4),
         ),
         (
-            Failing {
-                writes: 1,
-                ..NOTHING
-            },
+            Failing { writes: 1, ..none },
             ServeEnd::WriteFault,
             "ready\n",
             (2, 4),
         ),
         (
-            Failing {
-                calls: 0,
-                ..NOTHING
-            },
+            Failing { calls: 0, ..none },
             ServeEnd::DoorFault,
             "",
             (0, 4),
         ),
         (
-            Failing {
-                calls: 1,
-                ..NOTHING
-            },
+            Failing { calls: 1, ..none },
             ServeEnd::DoorFault,
             "ready\n",
             (0, 4),
         ),
         (
-            Failing {
-                calls: 2,
-                ..NOTHING
-            },
+            Failing { calls: 2, ..none },
             ServeEnd::DoorFault,
             "ready\n",
             (1, 4),
         ),
         (
-            Failing {
-                refused: 2,
-                ..NOTHING
-            },
+            Failing { refused: 2, ..none },
             ServeEnd::ShelfFault,
             "",
             (0, 2),
@@ -223,7 +195,7 @@ fn serves_up_to_the_last_connection_or_a_failure(rt: HostRuntime) -> Result<(), 
         (
             Failing {
                 broken: (3, 1),
-                ..NOTHING
+                ..none
             },
             ServeEnd::ShelfFault,
             "",
@@ -236,55 +208,146 @@ fn serves_up_to_the_last_connection_or_a_failure(rt: HostRuntime) -> Result<(), 
     Ok(())
 }
 
-// A disk fails within the put, so that a handoff takes its fragment. The doors fail behind the connection, so that no last pass runs:
-// the one behind the connection has brought the fragment home.
+// Compares the first file in the object's folder on each disk that is back.
+fn expect_files(rt: &impl Abort, served: &Served, names: [Option<&str>; 4]) {
+    let disks = served.shelf.returned();
+    assert_eq!(rt; disks.len(), 4);
+    for ((_, disk), name) in disks.iter().zip(names) {
+        assert_eq!(rt; disk.name_at(FOLDER, 0), name);
+        assert_eq!(rt; disk.name_at(FOLDER, 1), None);
+    }
+}
+
+// A disk fails within the put, so that a handoff takes its fragment. The last pass brings it home.
 #[test]
-fn repairs_behind_a_connection(rt: HostRuntime) -> Result<(), Fail> {
+fn repairs_at_last(rt: HostRuntime) -> Result<(), Fail> {
     let failing = Failing {
-        calls: 2,
         broken: (1, 3),
         ..NOTHING
     };
-    let served = serve_requests(
-        rt.alloc(),
-        [PUT, GET],
-        failing,
-        &MemClock::new(beginning()?),
-        &OpenGate,
-    )?;
-    let disks = served.shelf.returned();
-    assert_eq!(rt; disks.len(), 4);
+    let clock = MemClock::new(beginning()?);
+    let served = serve_requests(&rt, rt.alloc(), [PUT, ""], 1, failing, &clock, &OpenGate)?;
+    assert_eq!(&rt; served.end, ServeEnd::Closed { count: 2 });
     let names = [
         Some("1000000000.00000#0#d.data"),
         Some("1000000000.00000#1#d.data"),
         Some("1000000000.00000#2#d.data"),
         None,
     ];
-    for ((_, disk), name) in disks.iter().zip(names) {
-        assert_eq!(rt; disk.name_at(FOLDER, 0), name);
-        assert_eq!(rt; disk.name_at(FOLDER, 1), None);
+    expect_files(&rt, &served, names);
+    Ok(())
+}
+
+// The worker that repairs makes passes while connections are served.
+#[test]
+fn repairs_beside_connections(rt: HostRuntime) -> Result<(), Fail> {
+    let clock = MemClock::new(beginning()?);
+    let gate = RepairGate::new();
+    let served = serve_requests(&rt, rt.alloc(), [PUT, PUT], 1, NOTHING, &clock, &gate)?;
+    assert!(&rt; !gate.gave_up.load(Ordering::SeqCst));
+    assert_eq!(&rt; served.end, ServeEnd::Closed { count: 2 });
+    assert_eq!(&rt; served.output.bytes(), "ready\nclosed 2\n".as_bytes());
+    Ok(())
+}
+
+// Serves a put on each of two connections by two workers, the first of which is held within its own until the other one is through.
+fn race<R: Threads + Wait + Sync + Abort>(
+    rt: &R,
+    alloc: Global,
+    requests: [&str; 2],
+) -> Result<Served, Fail> {
+    let clock = MemClock::new(beginning()?);
+    let gate = RaceGate::new();
+    let served = serve_requests(rt, alloc, requests, 2, NOTHING, &clock, &gate)?;
+    assert!(rt; !gate.gave_up.load(Ordering::SeqCst));
+    assert_eq!(rt; served.end, ServeEnd::Closed { count: 2 });
+    assert_eq!(rt; served.doors.back().len(), 2);
+    Ok(served)
+}
+
+// Whether just one of the connections that are back has these answers.
+fn expect_one(rt: &impl Abort, served: &Served, want: &str) {
+    let answered = served.doors.back().iter();
+    let count = answered
+        .filter(|conn| conn.written() == want.as_bytes())
+        .count();
+    assert_eq!(rt; count, 1, "of {want:?}");
+}
+
+// No lock is held round a whole request: both are answered.
+#[test]
+fn serves_two_connections_at_once(rt: HostRuntime) -> Result<(), Fail> {
+    let served = race(&rt, rt.alloc(), [PUT, OTHER])?;
+    let created =
+        "HTTP/1.1 201 Created\r\nContent-Length: 0\r\nETag: 900150983cd24fb0d6963f7d28e17f72\r\nX-Timestamp: 1000000000.0000";
+    for stamp in ["0", "1"] {
+        let want = format!(in rt.alloc(); "{created}{stamp}\r\nX-Commits: 3\r\n\r\n")?;
+        expect_one(&rt, &served, &want);
     }
     Ok(())
 }
 
-// Each put looks at the clock once, and each connection passes the gate.
+// Of two puts of one name the one that drew first is overtaken.
+#[test]
+fn a_put_is_overtaken(rt: HostRuntime) -> Result<(), Fail> {
+    let served = race(&rt, rt.alloc(), [PUT, PUT])?;
+    expect_one(
+        &rt,
+        &served,
+        "HTTP/1.1 201 Created\r\nContent-Length: 0\r\nETag: 900150983cd24fb0d6963f7d28e17f72\r\nX-Timestamp: 1000000000.00001\r\nX-Commits: 3\r\n\r\n",
+    );
+    expect_one(
+        &rt,
+        &served,
+        "HTTP/1.1 202 Accepted\r\nContent-Length: 28\r\nContent-Type: text/plain\r\n\r\nSuperseded 1000000000.00001\n",
+    );
+    let names = [
+        Some("1000000000.00001#0#d.data"),
+        Some("1000000000.00001#1#d.data"),
+        Some("1000000000.00001#2#d.data"),
+        None,
+    ];
+    expect_files(&rt, &served, names);
+    Ok(())
+}
+
+// Each put looks at the clock once, and each connection and message of a worker passes the gate; so do the messages of the last pass.
 #[test]
 fn looks_at_the_clock_and_passes_the_gate(rt: HostRuntime) -> Result<(), Fail> {
+    let start = beginning()?;
     let clock = TickingClock {
-        next: Cell::new(beginning()?),
+        start,
+        next: AtomicU64::new(start.units()),
     };
-    let gate = NotingGate {
-        accepted: Cell::new(0),
-        other: Cell::new(0),
-    };
-    let served = serve_requests(rt.alloc(), [PUT, PUT], NOTHING, &clock, &gate)?;
+    let gate = NotingGate::new();
+    let served = serve_requests(&rt, rt.alloc(), [PUT, PUT], 1, NOTHING, &clock, &gate)?;
     let stamps = ["1000000000.00000", "1000000001.00000"];
     assert_eq!(&rt; served.doors.back().len(), 2);
     for (conn, stamp) in served.doors.back().iter().zip(stamps) {
         let text = str::from_utf8(conn.written())?;
         assert!(&rt; text.contains(stamp));
     }
-    assert_eq!(&rt; clock.next.get().units(), 100_000_000_200_000);
-    assert_eq!(&rt; (gate.accepted.get(), gate.other.get()), (2, 0));
+    assert_eq!(&rt; clock.next.load(Ordering::SeqCst), 100_000_000_200_000);
+    assert_eq!(&rt; gate.accepted.load(Ordering::SeqCst), 2);
+    assert_eq!(&rt; gate.sent.load(Ordering::SeqCst), 12);
+    assert!(&rt; gate.repairs.load(Ordering::SeqCst) > 0);
+    Ok(())
+}
+
+// Sixteen workers serve two connections.
+#[test]
+fn more_workers_than_connections(rt: HostRuntime) -> Result<(), Fail> {
+    let clock = MemClock::new(beginning()?);
+    let served = serve_requests(
+        &rt,
+        rt.alloc(),
+        [PUT, OTHER],
+        16,
+        NOTHING,
+        &clock,
+        &OpenGate,
+    )?;
+    assert_eq!(&rt; served.end, ServeEnd::Closed { count: 2 });
+    assert_eq!(&rt; served.doors.back().len(), 2);
     Ok(())
 }

@@ -12,7 +12,7 @@ use sw_disk::Disk;
 /// Where a program's disks come from, one for a device, and where they go back.
 pub trait Shelf {
     /// A disk of the shelf.
-    type Disk: Disk + Send + Drop;
+    type Disk: Disk + Send + Sync + Drop;
 
     /// What a request for a device's disk of so many bytes may answer, and leave.
     ghost hands: { Self → ℕ → ℕ → Result Self.Disk AFault → Self → Type 0 };

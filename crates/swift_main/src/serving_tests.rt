@@ -4,7 +4,9 @@ use crate::swift_main;
 use crate::tests::command_line;
 use std::alloc::Global;
 use std::process::Abort;
+use std::sync::Wait;
 use std::test::Fail;
+use std::thread::Threads;
 use sw_io::{MemClock, MemConn, MemDoors, MemSink, MemSource, OpenGate};
 use sw_memdisk::MemDisk;
 use sw_memshelf::MemShelf;
@@ -51,7 +53,12 @@ struct Served {
 }
 
 // Runs `serve 8080 1` on this input, with a put on the one connection.
-fn serve(alloc: Global, input: &str, failing: Failing) -> Result<Served, Fail> {
+fn serve(
+    rt: &(impl Threads + Wait + Sync),
+    alloc: Global,
+    input: &str,
+    failing: Failing,
+) -> Result<Served, Fail> {
     let words = command_line(alloc, &["serve", "8080", "1"])?;
     let mut source = MemSource::new(input.as_bytes().to_vec(alloc)?);
     let mut output = MemSink::new(alloc);
@@ -65,6 +72,7 @@ fn serve(alloc: Global, input: &str, failing: Failing) -> Result<Served, Fail> {
     let (device, number) = failing.broken;
     shelf.fail_at(device, vec![in alloc; number]?);
     let status = swift_main(
+        rt,
         alloc,
         &words,
         &mut source,
@@ -89,22 +97,16 @@ fn expect_names(rt: &impl Abort, disk: &MemDisk, names: &[&str]) {
     }
 }
 
-// Serves the put over a disk that fails within it: the handoff took its fragment, and the pass behind the connection brought it home.
-fn expect_put(
-    rt: &impl Abort,
-    alloc: Global,
-    calls: u64,
-    status: u8,
-    text: &str,
-) -> Result<(), Fail> {
+// Serves the put over a disk that fails within it: the handoff took its fragment, and a pass behind the connection brought it home.
+#[test]
+fn serves_a_put_as_curl_sends_it(rt: HostRuntime) -> Result<(), Fail> {
     let failing = Failing {
-        calls,
         broken: (1, 3),
         ..NOTHING
     };
-    let served = serve(alloc, "", failing)?;
-    assert_eq!(rt; served.status, status);
-    assert_eq!(rt; served.output.bytes(), text.as_bytes());
+    let served = serve(&rt, rt.alloc(), "", failing)?;
+    assert_eq!(rt; served.status, 0);
+    assert_eq!(rt; served.output.bytes(), "ready\nclosed 1\n".as_bytes());
     assert_eq!(rt; served.doors.back().len(), 1);
     assert_eq!(rt; served.doors.back()[0].written(), CREATED.as_bytes());
     let disks = served.shelf.returned();
@@ -117,16 +119,9 @@ fn expect_put(
     ];
     for place in 0..4usize {
         assert_eq!(rt; usize::from(disks[place].0), place);
-        expect_names(rt, &disks[place].1, names[place]);
+        expect_names(&rt, &disks[place].1, names[place]);
     }
     Ok(())
-}
-
-// Where the doors fail behind the connection no last pass runs.
-#[test]
-fn serves_a_put_as_curl_sends_it(rt: HostRuntime) -> Result<(), Fail> {
-    expect_put(&rt, rt.alloc(), u64::MAX, 0, "ready\nclosed 1\n")?;
-    expect_put(&rt, rt.alloc(), 2, 8, "ready\n")
 }
 
 #[test]
@@ -188,7 +183,7 @@ fn ends_where_the_outside_fails(rt: HostRuntime) -> Result<(), Fail> {
         ),
     ];
     for (input, failing, status, text) in cases {
-        let served = serve(rt.alloc(), input, failing)?;
+        let served = serve(&rt, rt.alloc(), input, failing)?;
         assert_eq!(rt; served.status, status, "with {failing:?}");
         assert_eq!(rt; served.output.bytes(), text.as_bytes(), "with {failing:?}");
     }

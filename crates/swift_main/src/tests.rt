@@ -3,7 +3,9 @@
 use crate::swift_main;
 use std::alloc::{AllocError, Global};
 use std::process::Abort;
+use std::sync::Wait;
 use std::test::Fail;
+use std::thread::Threads;
 use sw_io::{MemClock, MemDoors, MemSink, MemSource, OpenGate};
 use sw_memshelf::MemShelf;
 use sw_play::{GREATEST_SCRIPT, PlayEnd, play};
@@ -25,6 +27,7 @@ pub(crate) fn command_line(alloc: Global, words: &[&str]) -> Result<Vec<String>,
 
 // Runs the program over this source and this sink, with a shelf without faults and doors through which nobody comes.
 pub(crate) fn run(
+    rt: &(impl Threads + Wait + Sync),
     alloc: Global,
     words: &[&str],
     source: &mut MemSource,
@@ -33,6 +36,7 @@ pub(crate) fn run(
     let line = command_line(alloc, words)?;
     let mut doors = MemDoors::new(alloc, Vec::new(alloc))?;
     Ok(swift_main(
+        rt,
         alloc,
         &line,
         source,
@@ -46,7 +50,7 @@ pub(crate) fn run(
 
 // Runs the program by these words on this input, and compares its status and what it writes.
 fn expect_run(
-    rt: &impl Abort,
+    rt: &(impl Threads + Wait + Sync + Abort),
     alloc: Global,
     words: &[&str],
     input: Vec<u8>,
@@ -55,7 +59,7 @@ fn expect_run(
 ) -> Result<(), Fail> {
     let mut source = MemSource::new(input);
     let mut sink = MemSink::new(alloc);
-    let answer = run(alloc, words, &mut source, &mut sink)?;
+    let answer = run(rt, alloc, words, &mut source, &mut sink)?;
     assert_eq!(rt; sink.bytes(), text.as_bytes(), "{words:?}, to write {text}");
     assert_eq!(rt; answer, status, "{words:?}, to write {text}");
     Ok(())
@@ -63,7 +67,7 @@ fn expect_run(
 
 // Runs a script behind the text of a ring, and compares what it writes.
 pub(crate) fn expect_done(
-    rt: &impl Abort,
+    rt: &(impl Threads + Wait + Sync + Abort),
     alloc: Global,
     ring: &str,
     script: &str,
@@ -357,7 +361,7 @@ fn knows_two_commands(rt: HostRuntime) -> Result<(), Fail> {
         &[],
         &["play", "more"],
         &["serve", "8080"],
-        &["serve", "8080", "2"],
+        &["serve", "8080", "17"],
         &["load", "1"],
     ];
     for words in cases {
@@ -404,6 +408,7 @@ fn bounds_lines_and_names_and_the_input(rt: HostRuntime) -> Result<(), Fail> {
 // What the program answers by these words, and whether it wrote anything, where the source fails after so many reads
 // and the sink after so many writes.
 fn run_with_fuses(
+    rt: &(impl Threads + Wait + Sync),
     alloc: Global,
     words: &[&str],
     reads: u64,
@@ -413,7 +418,7 @@ fn run_with_fuses(
     let mut sink = MemSink::new(alloc);
     source.fuse(reads);
     sink.fuse(writes);
-    let answer = run(alloc, words, &mut source, &mut sink)?;
+    let answer = run(rt, alloc, words, &mut source, &mut sink)?;
     Ok((answer, !sink.bytes().is_empty()))
 }
 
@@ -430,7 +435,7 @@ fn tells_failures_of_reading_and_writing(rt: HostRuntime) -> Result<(), Fail> {
         ("fly", 0, 0, (6, false)),
     ];
     for (word, reads, writes, want) in cases {
-        let found = run_with_fuses(rt.alloc(), &[word], reads, writes)?;
+        let found = run_with_fuses(&rt, rt.alloc(), &[word], reads, writes)?;
         assert_eq!(rt;
             found,
             want,

@@ -3,15 +3,21 @@
 use crate::tests::run as run_words;
 use std::alloc::Global;
 use std::process::Abort;
+use std::sync::Wait;
 use std::test::Fail;
+use std::thread::Threads;
 use sw_io::{MemSink, MemSource};
 
 // Runs a script over the built-in ring, and answers its status and the lines that it writes.
-fn run(alloc: Global, script: &str) -> Result<(u8, Vec<u8>), Fail> {
+fn run(
+    rt: &(impl Threads + Wait + Sync),
+    alloc: Global,
+    script: &str,
+) -> Result<(u8, Vec<u8>), Fail> {
     let input = format!(in alloc; "\n{script}")?;
     let mut source = MemSource::new(input.as_bytes().to_vec(alloc)?);
     let mut sink = MemSink::new(alloc);
-    let status = run_words(alloc, &["play"], &mut source, &mut sink)?;
+    let status = run_words(rt, alloc, &["play"], &mut source, &mut sink)?;
     Ok((status, sink.bytes().to_vec(alloc)?))
 }
 
@@ -54,7 +60,7 @@ fn tells_each_message(rt: HostRuntime) -> Result<(), Fail> {
         ),
     ];
     for (script, text) in cases {
-        let (status, written) = run(rt.alloc(), script)?;
+        let (status, written) = run(&rt, rt.alloc(), script)?;
         assert_eq!(rt; written.as_slice(), text.as_bytes(), "{script}");
         assert_eq!(rt; status, 0, "{script}");
     }
@@ -108,7 +114,7 @@ fn interleaves_operations(rt: HostRuntime) -> Result<(), Fail> {
         ),
     ];
     for (script, text) in cases {
-        let (status, written) = run(rt.alloc(), script)?;
+        let (status, written) = run(&rt, rt.alloc(), script)?;
         let written = ends(rt.alloc(), &written)?;
         assert_eq!(rt; written.as_slice(), text.as_bytes(), "{script}");
         assert_eq!(rt; status, 0, "{script}");
@@ -141,7 +147,7 @@ fn crashes_within_a_commit(rt: HostRuntime) -> Result<(), Fail> {
             "put a/c/o 616263\nstart put a/c/o 646566\nmsg 13\nmsg 14\nmsg 15\nmsg 16\nmsg 17\nmsg 18\n\
              crash 19 {calls} {pick}\nrestart 0\nshow 0 a/c/o\n"
         )?;
-        let (_, written) = run(alloc, &script)?;
+        let (_, written) = run(&rt, alloc, &script)?;
         let text = format!(in alloc; "e 1 created 1000000000.00000 3\n{shown}")?;
         assert_eq!(rt;
             ends(alloc, &written)?.as_slice(),
@@ -156,7 +162,7 @@ fn crashes_within_a_commit(rt: HostRuntime) -> Result<(), Fail> {
 #[test]
 fn ends_where_stamps_are_spent(rt: HostRuntime) -> Result<(), Fail> {
     let script = "clock 9999999999.99999\nput a/c/o 61\nput a/c/o 62\nget a/c/o\n";
-    let (status, written) = run(rt.alloc(), script)?;
+    let (status, written) = run(&rt, rt.alloc(), script)?;
     let text = "e 1 created 9999999999.99999 3\nline 3: stamps spent\n";
     assert_eq!(rt; written.as_slice(), text.as_bytes());
     assert_eq!(rt; status, 9);

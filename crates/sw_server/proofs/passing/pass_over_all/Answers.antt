@@ -3,7 +3,7 @@ use Rattle.sw_ring.specs.Cluster.{ids_of}
 use Rattle.sw_ring.specs.Rules.{device_ids}
 use Rattle.sw_ring.specs.declared.device.Device.{Device}
 use Rattle.sw_front.specs.Answering.{Ways}
-use Rattle.sw_direct.proofs.Takings.{is_member}
+use Rattle.sw_cell.proofs.Takings.{is_member}
 use Rattle.sw_server.specs.Passes.{RunPasses, RunsPass}
 use Rattle.sw_server.proofs.Rounds.{no_success, none_is_left, nowhere, one_more_ran, one_wanted}
 use Rattle.sw_server.proofs.passing.pass_over_all.Given.{Over}

@@ -11,7 +11,7 @@ use Rattle.sw_local.proofs.link.LocalLinkDraw.draw.Goals as goal
 -- ---- a stamp was drawn
 
 abbrev before : (g : given.Over) → goal.After-units-units g → LocalModel g.row.T.Denot
-before g c = record { known = c.self.inside.pass.known; clock = c.self.inside.clock.now; lost = c.self.inside.lost.items; calls = c.self.inside.calls; losses = c.self.inside.losses; refused = c.self.inside.refused }
+before g c = record { known = c.self.inside.pass.known; clock = c.self.inside.clock.now; lost = c.self.inside.lost.items; calls = c.self.inside.calls; losses = c.self.inside.losses; refused = c.self.inside.refused; wants = c.self.inside.wants }
 
 drawn : (g : given.Over) (c : goal.After-units-units g) → HasDrawn g.C.OfCluster.cluster g.T.Clock.shows (before g c) c.args.name.now (option_copied c.args.object) c.in-Ok.stamp c.draw.new.self.known
 drawn g c = record {
@@ -48,7 +48,7 @@ returns-in-Ok-clause-learns g c = learns_drawn (drawn g c) g.D.Disk.tells
 -- ---- none was
 
 abbrev before_none : (g : given.Over) → goal.After-self-1 g → LocalModel g.row.T.Denot
-before_none g c = record { known = c.self.inside.pass.known; clock = c.self.inside.clock.now; lost = c.self.inside.lost.items; calls = c.self.inside.calls; losses = c.self.inside.losses; refused = c.self.inside.refused }
+before_none g c = record { known = c.self.inside.pass.known; clock = c.self.inside.clock.now; lost = c.self.inside.lost.items; calls = c.self.inside.calls; losses = c.self.inside.losses; refused = c.self.inside.refused; wants = c.self.inside.wants }
 
 spent : (g : given.Over) (c : goal.After-self-1 g) → HasSpent g.C.OfCluster.cluster g.T.Clock.shows (before_none g c) c.draw.new.self.known
 spent g c = record {

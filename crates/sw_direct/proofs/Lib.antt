@@ -1,4 +1,0 @@
-pub mod Changing
-pub mod HandingBack
-pub mod Takings
-pub mod Placing

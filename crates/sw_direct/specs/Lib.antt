@@ -1,2 +1,0 @@
-pub mod Direct
-pub mod Mounted

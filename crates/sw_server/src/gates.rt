@@ -1,0 +1,147 @@
+//! Gates that hold workers, for tests.
+
+use std::sync::atomic::{AtomicBool, AtomicU64, Ordering};
+use std::thread::yield_now;
+use sw_io::{Gate, GatePoint};
+
+// So long a worker is held at most.
+const TURNS: u32 = 100_000_000;
+
+// No worker has this number.
+const NOBODY: u64 = u64::MAX;
+
+/// A gate that counts what workers pass.
+#[derive(Drop)]
+pub(crate) struct NotingGate {
+    pub(crate) accepted: AtomicU64,
+    pub(crate) sent: AtomicU64,
+    pub(crate) repairs: AtomicU64,
+}
+
+impl NotingGate {
+    pub(crate) fn new() -> NotingGate {
+        NotingGate {
+            accepted: AtomicU64::new(0),
+            sent: AtomicU64::new(0),
+            repairs: AtomicU64::new(0),
+        }
+    }
+}
+
+impl Gate for NotingGate {
+    fn at(&self, worker: u16, point: GatePoint) {
+        let count = match (worker, point) {
+            (0, GatePoint::Accepted) => &self.accepted,
+            (0, GatePoint::BeforeMessage) => &self.sent,
+            (1, GatePoint::BeforeMessage) => &self.repairs,
+            _ => return,
+        };
+        count.fetch_add(1, Ordering::SeqCst);
+    }
+}
+
+/// A gate that holds worker 0 at its second connection until worker 1, which repairs, is about to send a message.
+#[derive(Drop)]
+pub(crate) struct RepairGate {
+    accepted: AtomicU64,
+    repairs: AtomicBool,
+    pub(crate) gave_up: AtomicBool,
+}
+
+impl RepairGate {
+    pub(crate) fn new() -> RepairGate {
+        RepairGate {
+            accepted: AtomicU64::new(0),
+            repairs: AtomicBool::new(false),
+            gave_up: AtomicBool::new(false),
+        }
+    }
+}
+
+impl Gate for RepairGate {
+    fn at(&self, worker: u16, point: GatePoint) {
+        match (worker, point) {
+            (0, GatePoint::Accepted) => {
+                if self.accepted.fetch_add(1, Ordering::SeqCst) == 1 {
+                    wait_for(&self.repairs, &self.gave_up);
+                }
+            }
+            (1, GatePoint::BeforeMessage) => self.repairs.store(true, Ordering::SeqCst),
+            _ => {}
+        }
+    }
+}
+
+/// A gate for two workers, with a put each. That which gets its connection first is held before its second message until the other one has the
+/// answers to all six of its own; and that is held as it gets its connection until the first one is.
+#[derive(Drop)]
+pub(crate) struct RaceGate {
+    first: AtomicU64,
+    sent: AtomicU64,
+    answers: AtomicU64,
+    is_held: AtomicBool,
+    is_answered: AtomicBool,
+    pub(crate) gave_up: AtomicBool,
+}
+
+impl RaceGate {
+    pub(crate) fn new() -> RaceGate {
+        RaceGate {
+            first: AtomicU64::new(NOBODY),
+            sent: AtomicU64::new(0),
+            answers: AtomicU64::new(0),
+            is_held: AtomicBool::new(false),
+            is_answered: AtomicBool::new(false),
+            gave_up: AtomicBool::new(false),
+        }
+    }
+
+    // The first worker sends a message.
+    fn send(&self) {
+        if self.sent.fetch_add(1, Ordering::SeqCst) == 1 {
+            self.is_held.store(true, Ordering::SeqCst);
+            wait_for(&self.is_answered, &self.gave_up);
+        }
+    }
+
+    // The other one has an answer.
+    fn answer(&self) {
+        if self.answers.fetch_add(1, Ordering::SeqCst) == 5 {
+            self.is_answered.store(true, Ordering::SeqCst);
+        }
+    }
+}
+
+impl Gate for RaceGate {
+    fn at(&self, worker: u16, point: GatePoint) {
+        if worker > 1 {
+            return;
+        }
+        let me = u64::from(worker);
+        let is_first = self.first.load(Ordering::SeqCst) == me;
+        match point {
+            GatePoint::Accepted => {
+                let found = self
+                    .first
+                    .compare_exchange(NOBODY, me, Ordering::SeqCst, Ordering::SeqCst);
+                if found.is_err() && !is_first {
+                    wait_for(&self.is_held, &self.gave_up);
+                }
+            }
+            GatePoint::BeforeMessage if is_first => self.send(),
+            GatePoint::Answered if !is_first => self.answer(),
+            _ => {}
+        }
+    }
+}
+
+// Waits until this is so, for some turns at most.
+fn wait_for(is_so: &AtomicBool, gave_up: &AtomicBool) {
+    for _ in 0..TURNS {
+        if is_so.load(Ordering::SeqCst) {
+            return;
+        }
+        yield_now();
+    }
+    gave_up.store(true, Ordering::SeqCst);
+}
