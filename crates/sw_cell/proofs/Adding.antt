@@ -1,5 +1,5 @@
 -- What stands behind a lock once its node has done something: it is as it must be, with an event more in the history or with none.
-use Rattle.std.proofs.Common.{◌≡◌, ◌≤◌, ℕ, Bool, false, List, ◌∷◌, refl, sym, ap, ◌∙◌, subst}
+use Rattle.std.proofs.Common.{◌≡◌, ℕ, Bool, List, ◌∷◌, refl, sym, ap, ◌∙◌, subst}
 use Rattle.atomic_table.specs.Seated.{TableId}
 use Rattle.sw_disk.specs.Runs.{Seen}
 use Rattle.sw_ring.specs.Cluster.{ClusterModel}
@@ -26,8 +26,6 @@ module _ (slot : ℕ) (event : Event) (before after : Known) (is : after ≡ adv
     kind = refl;
     drawn = refl;
     mark = refl;
-    joined = refl;
-    crowded = refl;
     others = λ other apart. history_other before.histories slot other (event ∷ history before.histories slot) apart;
   })
 
@@ -37,7 +35,7 @@ module _ {D : Type 0} (seen : D → Seen) (cluster : ClusterModel) (table : Tabl
     (new : NodeModel D) (is_node : IsNode cluster seen new) (same : new.device ≡ old.node.device) (is_due : Bool) (due : is_due ≡ new.is_due) where
   -- the node has changed, and nothing was added
   pub locked_still : AreCounted (history old.known.histories old.slot) (seen new.disk).faults
-      → (old.known.crowded ≡ false → IsReplayed cluster seen (history old.known.histories old.slot) new)
+      → IsReplayed cluster seen (history old.known.histories old.slot) new
       → IsLocked cluster table seen (record { node = new; table = old.table; slot = old.slot; known = old.known; is_due = is_due })
   locked_still counted replayed = record {
     same_table = is.same_table;
@@ -45,14 +43,13 @@ module _ {D : Type 0} (seen : D → Seen) (cluster : ClusterModel) (table : Tabl
     slot = subst (λ device. HasSlot cluster device old.slot) (sym same) is.slot;
     due = due;
     none_owed = is.none_owed;
-    fewer = is.fewer;
     counted = counted;
     replayed = replayed;
   }
 
   -- and an event was added
   pub locked_more : (event : Event) (id : TableId) (slot : ℕ) (known : Known) → (id ≡ old.table) × (slot ≡ old.slot) → known ≡ advanced old.slot event old.known
-      → AreCounted (event ∷ history old.known.histories old.slot) (seen new.disk).faults → (old.known.crowded ≡ false → IsReplayed cluster seen (event ∷ history old.known.histories old.slot) new)
+      → AreCounted (event ∷ history old.known.histories old.slot) (seen new.disk).faults → IsReplayed cluster seen (event ∷ history old.known.histories old.slot) new
       → IsLocked cluster table seen (record { node = new; table = id; slot = slot; known = known; is_due = is_due })
   locked_more event id slot known kept added counted replayed = record {
     same_table = kept.0 ∙ is.same_table;
@@ -60,9 +57,8 @@ module _ {D : Type 0} (seen : D → Seen) (cluster : ClusterModel) (table : Tabl
     slot = subst (λ (one : ℕ). HasSlot cluster new.device one) (sym kept.1) (subst (λ device. HasSlot cluster device old.slot) (sym same) is.slot);
     due = due;
     none_owed = ap (λ (one : Known). one.owing) added;
-    fewer = subst (λ (one : Known). one.lost ≤ one.joined) (sym added) is.fewer;
     counted = subst (λ (later : List Event). AreCounted later (seen new.disk).faults) (sym (ap (history known.histories) kept.1 ∙ latest old.slot event old.known known added)) counted;
-    replayed = λ few.
+    replayed =
         let events : history known.histories slot ≡ event ∷ history old.known.histories old.slot = ap (history known.histories) kept.1 ∙ latest old.slot event old.known known added in
-        subst (λ events. IsReplayed cluster seen events new) (sym events) (replayed (sym (ap (λ (one : Known). one.crowded) added) ∙ few));
+        subst (λ events. IsReplayed cluster seen events new) (sym events) replayed;
   }

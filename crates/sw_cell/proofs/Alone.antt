@@ -1,29 +1,28 @@
--- A pass that takes in a note of its own: it has learnt what it knew, and nothing happened.
-use Rattle.std.proofs.Common.{◌≡◌, inl, ⊎_elim, ℕ, Bool, false, refl, ap, ◌∙◌}
+-- A pass that looks at the table alone: it has learnt that what it knew is sound, and nothing happened.
+use Rattle.std.proofs.Common.{◌≡◌, inl, ℕ, Bool, refl, sym, ap, subst, arith}
 use Rattle.sw_ring.specs.Cluster.{ClusterModel}
 use Rattle.sw_message.specs.declared.message.Msg.{Msg}
 use Rattle.sw_message.specs.declared.reply.Reply.TheVariants.{NoMemory}
 use Rattle.sw_pass.specs.Known.{history}
-use Rattle.sw_pass.specs.Steps.{Knows, RestOf, joined, learned, noted}
+use Rattle.sw_pass.specs.Steps.{Knows, learned}
 use Rattle.sw_pass.specs.declared.known.Known.{Known}
 use Rattle.sw_pass.proofs.Histories.{continues_itself}
 use Rattle.sw_cell.specs.Calling.{IsCalled}
-use Rattle.sw_cell.proofs.Joined.{learnt_after}
-use Rattle.sw_cell.proofs.Leaving.{either_kept}
+use Rattle.sw_cell.specs.Learning.{HasLearnt}
 
-module _ (cluster : ClusterModel) (pass note after : Known) (rest : RestOf after (learned (joined pass note))) (learnt : after.crowded ≡ false → Knows cluster (joined pass note)) (few : after.crowded ≡ false) where
-  module _ (own : note ≡ noted pass) (slot : ℕ) where
-    -- of its own note it takes the histories that it has
-    same_history : history after.histories slot ≡ history pass.histories slot
-    same_history =
-        ap (λ (known : Known). history known.histories slot) rest.0
-        ∙ ⊎_elim (λ mine. mine) (λ theirs. theirs ∙ ap (λ (known : Known). history known.histories slot) own) (either_kept pass.kind pass.histories note.histories slot)
+module _ (cluster : ClusterModel) (pass after : Known) (is : after ≡ learned pass) (knows : Knows cluster pass) where
+  pub learnt_alone : HasLearnt cluster pass after
+  learnt_alone = subst (HasLearnt cluster pass) (sym is) (record {
+    grown = record { covers = record { drawn = λ fact has. has; histories = λ slot. continues_itself (history pass.histories slot) }; mark = omega arith; clock = refl; draws = refl };
+    sound = knows.sound;
+    agree = knows.agree;
+  })
 
-    -- so it is as behind a call that wanted memory
-    pub called_alone : (tells : Bool) (msg : Msg) → IsCalled cluster tells slot msg NoMemory pass after
-    called_alone tells msg = record {
-      learnt = learnt_after pass note after rest cluster (learnt few) few;
-      past = history pass.histories slot;
-      later = continues_itself (history pass.histories slot);
-      replied = record { middle = history pass.histories slot; mounted = inl refl; latest = same_history };
-    }
+  -- so it is as behind a call that wanted memory
+  pub called_alone : (slot : ℕ) (tells : Bool) (msg : Msg) → IsCalled cluster tells slot msg NoMemory pass after
+  called_alone slot tells msg = record {
+    learnt = learnt_alone;
+    past = history pass.histories slot;
+    later = continues_itself (history pass.histories slot);
+    replied = record { middle = history pass.histories slot; mounted = inl refl; latest = ap (λ (known : Known). history known.histories slot) is };
+  }

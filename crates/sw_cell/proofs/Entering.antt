@@ -1,5 +1,5 @@
 -- As a call begins: the seat of a node took in what the pass knows, and may handle what the pass warrants.
-use Rattle.std.proofs.Common.{◌≡◌, ◌≤◌, ℕ, ◌+◌, Bool, false, List, length, None, sym, ap, subst, ◌∙◌, arith}
+use Rattle.std.proofs.Common.{◌≡◌, ℕ, Bool, List, None, sym, ap, subst, ◌∙◌}
 use Rattle.atomic_table.specs.Seated.{TableId}
 use Rattle.sw_disk.specs.Runs.{Seen}
 use Rattle.sw_ring.specs.Cluster.{ClusterModel}
@@ -10,14 +10,15 @@ use Rattle.sw_view.specs.View.{Grows, known_to}
 use Rattle.sw_view.specs.declared.event.Event.{Event}
 use Rattle.sw_view.proofs.Growth.{keeps}
 use Rattle.sw_law_view.proofs.Replies.{firm}
-use Rattle.sw_pass.specs.Known.{Covers, HasSlot, IsNode, history, view_of}
-use Rattle.sw_pass.specs.Steps.{Knows, RestOf, is_node, joined, learned, noted, old_of}
+use Rattle.sw_pass.specs.Known.{Covers, HasSlot, history, view_of}
+use Rattle.sw_pass.specs.Steps.{Knows, joined, learned, noted, old_of}
+use Rattle.sw_pass.specs.declared.known.Kind.TheVariants as kind
 use Rattle.sw_pass.specs.declared.known.Known.{Known}
 use Rattle.sw_pass.proofs.Views.{grows_with}
 use Rattle.sw_cell.specs.Calling.{MayCall}
 use Rattle.sw_cell.specs.Handling.{MayHandle}
 use Rattle.sw_cell.specs.Locked.{AreCounted, IsLocked, LockedModel}
-use Rattle.sw_cell.proofs.Joined.{both_few, covers_noted, own_stays, sound_after}
+use Rattle.sw_cell.proofs.Joined.{covers_noted, own_stays, sound_after}
 
 -- what a seat covers its view has
 covered_grows : (cluster : ClusterModel) (known before : Known) → Covers known (old_of before) → Grows (view_of cluster before) (view_of cluster known)
@@ -25,36 +26,27 @@ covered_grows cluster known before covers = grows_with cluster before.drawn know
 
 module _ (cluster : ClusterModel) where
   -- what stands behind the lock is as it was
-  pub locked_joined : {D : Type 0} (table : TableId) (seen : D → Seen) (locked : LockedModel D) (note after : Known) (place : TableId) (slot : ℕ) → place ≡ locked.table → slot ≡ locked.slot → IsLocked cluster table seen locked → IsNode locked.slot locked.known
-      → RestOf after (learned (joined locked.known note)) → IsLocked cluster table seen (record { node = locked.node; table = place; slot = slot; known = after; is_due = locked.is_due })
+  pub locked_joined : {D : Type 0} (table : TableId) (seen : D → Seen) (locked : LockedModel D) (note after : Known) (place : TableId) (slot : ℕ) → place ≡ locked.table → slot ≡ locked.slot → IsLocked cluster table seen locked → locked.known.kind ≡ kind.Node locked.slot
+      → after ≡ learned (joined locked.known note) → IsLocked cluster table seen (record { node = locked.node; table = place; slot = slot; known = after; is_due = locked.is_due })
   locked_joined table seen locked note after place slot same_place same_slot is node rest = record {
     same_table = same_place ∙ is.same_table;
     is_node = is.is_node;
     slot = subst (HasSlot cluster locked.node.device) (sym same_slot) is.slot;
     due = is.due;
-    none_owed = ap (λ (known : Known). known.owing) rest.0 ∙ is.none_owed;
-    fewer = subst (λ (known : Known). known.lost ≤ known.joined) (sym rest.0) (let fewer = is.fewer in omega arith);
+    none_owed = ap (λ (known : Known). known.owing) rest ∙ is.none_owed;
     counted = subst (λ (events : List Event). AreCounted events (seen locked.node.disk).faults) (sym (ap (history after.histories) same_slot ∙ own_stays locked.known note after rest locked.slot node)) is.counted;
-    replayed = λ few.
-        subst (λ (events : List Event). IsReplayed cluster seen events locked.node)
-        (sym (ap (history after.histories) same_slot ∙ own_stays locked.known note after rest locked.slot node)) (is.replayed (both_few locked.known note after rest few).0);
+    replayed = subst (λ (events : List Event). IsReplayed cluster seen events locked.node)
+        (sym (ap (history after.histories) same_slot ∙ own_stays locked.known note after rest locked.slot node)) is.replayed;
   }
 
   -- and it may handle a message
-  pub may_handle : (tells : Bool) (slot : ℕ) (msg : Msg) (seat pass note after : Known) → IsNode slot seat → seat.owing ≡ None → note ≡ noted pass → RestOf after (learned (joined seat note)) → (after.crowded ≡ false → Knows cluster (joined seat note))
+  pub may_handle : (tells : Bool) (slot : ℕ) (msg : Msg) (seat pass note after : Known) → seat.kind ≡ kind.Node slot → seat.owing ≡ None → note ≡ noted pass → after ≡ learned (joined seat note) → (Knows cluster (joined seat note))
       → MayCall cluster tells msg pass → MayHandle cluster tells slot msg after
   may_handle tells slot msg seat pass note after node none noted_so rest learnt may = record {
-    room =
-        let own : length (history after.histories slot) ≡ length (history seat.histories slot) = ap length (own_stays seat note after rest slot node) in
-        let more : after.joined ≡ seat.joined + is_node seat.kind = ap (λ (known : Known). known.joined) rest.0 in
-        let one : is_node seat.kind ≡ 1 = ap is_node node.kind in
-        let room = node.room in
-        omega arith;
-    none_owed = ap (λ (known : Known). known.owing) rest.0 ∙ none;
-    sound = λ few. sound_after seat note after rest cluster (learnt few);
-    firm = λ told few.
-        let grows = covered_grows cluster after pass (covers_noted seat note after rest cluster (learnt few) pass noted_so) in
-        let warranted = may told (sym (ap (λ (known : Known). known.crowded) noted_so) ∙ (both_few seat note after rest few).1) in
-        firm cluster (view_of cluster after) (sound_after seat note after rest cluster (learnt few)) msg
-        (warranted_kept cluster (known_to cluster (view_of cluster pass)) (known_to cluster (view_of cluster after)) (keeps (view_of cluster pass) (view_of cluster after) grows cluster) msg warranted);
+    none_owed = ap (λ (known : Known). known.owing) rest ∙ none;
+    sound = sound_after seat note after rest cluster learnt;
+    firm = λ told.
+        let grows = covered_grows cluster after pass (covers_noted seat note after rest cluster learnt pass noted_so) in
+        firm cluster (view_of cluster after) (sound_after seat note after rest cluster learnt) msg
+        (warranted_kept cluster (known_to cluster (view_of cluster pass)) (known_to cluster (view_of cluster after)) (keeps (view_of cluster pass) (view_of cluster after) grows cluster) msg (may told));
   }

@@ -1,5 +1,5 @@
 -- What a seat knows goes on growing: what it covered it covers still, and what it has learnt at last it has learnt since the beginning.
-use Rattle.std.proofs.Common.{◌≡◌, false, ◌∙◌, arith}
+use Rattle.std.proofs.Common.{◌∙◌, arith}
 use Rattle.sw_ring.specs.Cluster.{ClusterModel}
 use Rattle.sw_pass.specs.Known.{Covers, history}
 use Rattle.sw_pass.specs.Steps.{old_of}
@@ -19,7 +19,6 @@ module _ (before between after : Known) (first : HasGrown before between) where
   -- what has grown twice has grown
   pub grown_twice : HasGrown between after → HasGrown before after
   grown_twice second = record {
-    few = first.few;
     covers = covers_still (old_of before) between after first.covers second.covers;
     mark = omega (arith, first.mark, second.mark);
     clock = second.clock ∙ first.clock;
@@ -31,13 +30,9 @@ module _ (before between after : Known) (first : HasGrown before between) where
   learnt_since cluster second = record { grown = grown_twice second.grown; sound = second.sound; agree = second.agree }
 
 -- Where a seat told a pass what it knew, the pass covers that still once it has grown.
-pub told_still : (old : Old) (told after : Known) → (told.crowded ≡ false → Covers told old) → (after.crowded ≡ false → HasGrown told after) → after.crowded ≡ false → Covers after old
-told_still old told after covers grown few = covers_still old told after (covers (grown few).few) (grown few).covers
+pub told_still : (old : Old) (told after : Known) → Covers told old → HasGrown told after → Covers after old
+told_still old told after covers grown = covers_still old told after covers grown.covers
 
 -- What a pass has learnt once a seat told it something, it took in more of others, and it took in what the seat did at last.
-pub learnt_last : (cluster : ClusterModel) (before told between after : Known) → (told.crowded ≡ false → HasLearnt cluster before told) → (between.crowded ≡ false → HasGrown told between) → (after.crowded ≡ false → HasLearnt cluster between after)
-    → after.crowded ≡ false → HasLearnt cluster before after
-learnt_last cluster before told between after first second third few =
-    let last = third few in
-    let others = second last.grown.few in
-    learnt_since before between after (grown_twice before told between (first others.few).grown others) cluster last
+pub learnt_last : (cluster : ClusterModel) (before told between after : Known) → HasLearnt cluster before told → HasGrown told between → HasLearnt cluster between after → HasLearnt cluster before after
+learnt_last cluster before told between after first others last = learnt_since before between after (grown_twice before told between first.grown others) cluster last

@@ -1,5 +1,5 @@
 -- As a call ends: the pass took in what the seat of the node knows, and has of the device the seat's history.
-use Rattle.std.proofs.Common.{◌≡◌, ◌⊎◌, inl, inr, ⊎_elim, ℕ, zero, suc, ◌+◌, Bool, false, List, [], ◌∷◌, length, refl, sym, ap, subst, ◌∙◌, arith, length-append}
+use Rattle.std.proofs.Common.{◌≡◌, ◌⊎◌, inl, inr, ⊎_elim, ℕ, zero, suc, ◌+◌, Bool, List, [], ◌∷◌, length, refl, sym, ap, subst, ◌∙◌, arith, length-append}
 use mathlib.Core.Logic.{dite}
 use native.Mathlib.Decide.{ℕ_discrete}
 use Rattle.sw_ring.specs.Cluster.{ClusterModel}
@@ -10,14 +10,14 @@ use Rattle.sw_view.specs.History.{Continues}
 use Rattle.sw_view.specs.declared.event.Event.{Event}
 use Rattle.sw_view.specs.declared.event.Event.TheVariants.{Mounted}
 use Rattle.sw_pass.specs.Known.{history}
-use Rattle.sw_pass.specs.Steps.{Knows, RestOf, joined, learned, longest, noted, own_kept}
+use Rattle.sw_pass.specs.Steps.{Knows, joined, learned, longest, noted, own_kept}
 use Rattle.sw_pass.specs.declared.known.Kind.{Kind}
 use Rattle.sw_pass.specs.declared.known.Kind.TheVariants as kind
 use Rattle.sw_pass.specs.declared.known.Known.{Known}
 use Rattle.sw_pass.proofs.Histories.{by_longer, continues_itself, continues_length, continues_more, continues_one, history_other, history_same}
 use Rattle.sw_cell.specs.Calling.{IsCalled, IsRepliedTo, event_of, replied_events, shown}
 use Rattle.sw_cell.specs.Handling.{HasAdded}
-use Rattle.sw_cell.proofs.Joined.{both_few, covers_noted, learnt_after}
+use Rattle.sw_cell.proofs.Joined.{covers_noted, learnt_after}
 
 -- ---- histories
 
@@ -62,10 +62,10 @@ replied_on tells msg reply past events is =
 -- ---- the call
 
 -- a pass that takes in what a seat knows has of the seat's device what the seat has, where that goes on from what the pass had
-pub same_history : (slot : ℕ) (pass left after note : Known) → note ≡ noted left → RestOf after (learned (joined pass note)) → Continues (history after.histories slot) (history left.histories slot) → Continues (history left.histories slot) (history pass.histories slot)
+pub same_history : (slot : ℕ) (pass left after note : Known) → note ≡ noted left → after ≡ learned (joined pass note) → Continues (history after.histories slot) (history left.histories slot) → Continues (history left.histories slot) (history pass.histories slot)
     → history after.histories slot ≡ history left.histories slot
 same_history slot pass left after note noted_so rest covers later =
-    let is : history after.histories slot ≡ history (own_kept pass.kind pass.histories note.histories) slot = ap (λ (known : Known). history known.histories slot) rest.0 in
+    let is : history after.histories slot ≡ history (own_kept pass.kind pass.histories note.histories) slot = ap (λ (known : Known). history known.histories slot) rest in
     let theirs : history note.histories slot ≡ history left.histories slot = ap (λ (known : Known). history known.histories slot) noted_so in
     ⊎_elim
     (λ own. same_continued (history after.histories slot) (history left.histories slot) covers (subst (λ (events : List Event). Continues (history left.histories slot) events) (sym (is ∙ own)) later))
@@ -73,17 +73,16 @@ same_history slot pass left after note noted_so rest covers later =
     (either_kept pass.kind pass.histories note.histories slot)
 
 module _ (cluster : ClusterModel) (tells : Bool) (slot : ℕ) (msg : Msg) (reply : Reply) (pass seat entered left after : Known) where
-  pub called : (first second : Known) → first ≡ noted pass → RestOf entered (learned (joined seat first)) → (entered.crowded ≡ false → Knows cluster (joined seat first))
+  pub called : (first second : Known) → first ≡ noted pass → entered ≡ learned (joined seat first) → (Knows cluster (joined seat first))
       → HasAdded slot entered left → IsRepliedTo tells msg reply (history entered.histories slot) (history left.histories slot)
-      → second ≡ noted left → RestOf after (learned (joined pass second)) → (after.crowded ≡ false → Knows cluster (joined pass second))
-      → after.crowded ≡ false → IsCalled cluster tells slot msg reply pass after
-  called first second first_is rest learnt added replied second_is rest_after knows few =
-      let entered_few : entered.crowded ≡ false = sym added.crowded ∙ (sym (ap (λ (known : Known). known.crowded) second_is) ∙ (both_few pass second after rest_after few).1) in
-      let later = (covers_noted seat first entered rest cluster (learnt entered_few) pass first_is).histories slot in
-      let covers = (covers_noted pass second after rest_after cluster (knows few) left second_is).histories slot in
+      → second ≡ noted left → after ≡ learned (joined pass second) → (Knows cluster (joined pass second))
+      → IsCalled cluster tells slot msg reply pass after
+  called first second first_is rest learnt added replied second_is rest_after knows =
+      let later = (covers_noted seat first entered rest cluster learnt pass first_is).histories slot in
+      let covers = (covers_noted pass second after rest_after cluster knows left second_is).histories slot in
       let on = continues_more (history left.histories slot) (history entered.histories slot) (history pass.histories slot) (replied_on tells msg reply (history entered.histories slot) (history left.histories slot) replied) later in
       record {
-        learnt = learnt_after pass second after rest_after cluster (knows few) few;
+        learnt = learnt_after pass second after rest_after cluster knows;
         past = history entered.histories slot;
         later = later;
         replied = subst (IsRepliedTo tells msg reply (history entered.histories slot)) (sym (same_history slot pass left after second second_is rest_after covers on)) replied;

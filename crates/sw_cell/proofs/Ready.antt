@@ -1,5 +1,5 @@
 -- What a reply needs, from what a call gives: before the mount that was due, and behind it.
-use Rattle.std.proofs.Common.{◌≡◌, ⊎_elim, ℕ, suc, Bool, Contains, List, [], ◌∷◌, length, None, refl, sym, ap, subst, ◌∙◌, arith}
+use Rattle.std.proofs.Common.{◌≡◌, ⊎_elim, ℕ, Bool, Contains, List, [], ◌∷◌, None, refl, sym, subst}
 use Rattle.sw_diskfile.proofs.Lists.{Contains-cases}
 use Rattle.sw_ring.specs.Cluster.{ClusterModel}
 use Rattle.sw_message.specs.Message.{IsPlaceOf, place_in}
@@ -44,30 +44,24 @@ module _ (cluster : ClusterModel) (tells : Bool) (slot : ℕ) (msg : Msg) (right
   -- where no mount was due
   pub may_reply : (known : Known) → MayHandle cluster tells slot msg known → MayReply cluster tells slot msg known
   may_reply known may = record {
-    room = let room = may.room in omega arith;
     none_owed = may.none_owed;
-    replayed = λ few device at. replayed_at cluster slot known (may.sound few) device at;
+    replayed = λ device at. replayed_at cluster slot known may.sound device at;
     firm = may.firm;
-    step = λ told few device at. has_step cluster (view_of cluster known) (may.sound few) device (history known.histories slot) msg (fair_at cluster slot known (may.sound few) device at) right (may.firm told few);
+    step = λ told device at. has_step cluster (view_of cluster known) may.sound device (history known.histories slot) msg (fair_at cluster slot known may.sound device at) right (may.firm told);
   }
 
   -- behind a mount
   pub may_reply_mounted : (before after : Known) → MayHandle cluster tells slot msg before → HasAdded slot before after → history after.histories slot ≡ Mounted ∷ history before.histories slot → after.owing ≡ None → MayReply cluster tells slot msg after
   may_reply_mounted before after may added is none = record {
-    room =
-        let room = may.room in
-        let joined = added.joined in
-        let more : length (history after.histories slot) ≡ suc (length (history before.histories slot)) = ap length is in
-        omega arith;
     none_owed = none;
-    replayed = λ few device at.
-        let one = replayed_at cluster slot before (may.sound (sym added.crowded ∙ few)) device at in
+    replayed = λ device at.
+        let one = replayed_at cluster slot before may.sound device at in
         let found = found_of cluster device one.0 in
         (Sure found.0, subst (λ (events : List Event). Replays cluster device events (Sure found.0)) (sym is) (one.0, found.0, one.1, found.1, refl));
-    firm = λ told few.
-        firm_kept cluster _ _ (keeps (view_of cluster before) (view_of cluster after) (added_grows cluster slot before after added (Mounted ∷ [], is)) cluster) msg (may.firm told (sym added.crowded ∙ few));
-    step = λ told few device at.
-        let sound = may.sound (sym added.crowded ∙ few) in
+    firm = λ told.
+        firm_kept cluster _ _ (keeps (view_of cluster before) (view_of cluster after) (added_grows cluster slot before after added (Mounted ∷ [], is)) cluster) msg (may.firm told);
+    step = λ told device at.
+        let sound = may.sound in
         subst (λ (events : List Event). HasStep cluster device events msg) (sym is)
-        (has_step cluster (view_of cluster before) sound device (Mounted ∷ history before.histories slot) msg (fair_mounted cluster slot before sound device at) right (may.firm told (sym added.crowded ∙ few)));
+        (has_step cluster (view_of cluster before) sound device (Mounted ∷ history before.histories slot) msg (fair_mounted cluster slot before sound device at) right (may.firm told));
   }

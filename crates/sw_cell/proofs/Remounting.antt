@@ -82,10 +82,10 @@ module _ {D : Type 0} {seen : D → Seen} {left_since : D → Past} {tells : Boo
   events = history old.known.histories old.slot
 
   -- what the disk holds stands for the history behind it
-  replayed : old.known.crowded ≡ false → IsReplayed cluster seen (remounted_events tells msg reason events) new
-  replayed few = replayed_if seen cluster (remounted_events tells msg reason events) new tells (is.telling new.disk) (λ told.
+  replayed : IsReplayed cluster seen (remounted_events tells msg reason events) new
+  replayed = replayed_if seen cluster (remounted_events tells msg reason events) new tells (is.telling new.disk) (λ told.
       subst (λ later. IsReplayed cluster seen later new) (mounted_if tells msg reason events told)
-      (remounted seen left_since cluster events msg reason old.node new (sym is.locked.due ∙ is.was_due) (is.locked.replayed few) is.remounts))
+      (remounted seen left_since cluster events msg reason old.node new (sym is.locked.due ∙ is.was_due) is.locked.replayed is.remounts))
 
   -- and each failure was counted
   counted : AreCounted (remounted_events tells msg reason events) (seen new.disk).faults
@@ -95,32 +95,32 @@ module _ {D : Type 0} {seen : D → Seen} {left_since : D → Past} {tells : Boo
   pub remount_still : reason ≡ Some fault.NoMemory → IsLocked cluster table seen (record { node = new; table = old.table; slot = old.slot; known = old.known; is_due = is_due })
   remount_still wanted = locked_still seen cluster table old is.locked new is.is_node is.remounts.device is_due is.due
       (subst (λ why. AreCounted (remounted_events tells msg why events) (seen new.disk).faults) wanted counted)
-      (λ few. subst (λ why. IsReplayed cluster seen (remounted_events tells msg why events) new) wanted (replayed few))
+      (subst (λ why. IsReplayed cluster seen (remounted_events tells msg why events) new) wanted replayed)
 
   module _ (some : reason ≢ Some fault.NoMemory) where
     -- and else it is that with the event
-    with_event : old.known.crowded ≡ false → IsReplayed cluster seen (mount_event tells msg reason ∷ events) new
-    with_event few = subst (λ later. IsReplayed cluster seen later new) (mount_added tells msg reason events some) (replayed few)
+    with_event : IsReplayed cluster seen (mount_event tells msg reason ∷ events) new
+    with_event = subst (λ later. IsReplayed cluster seen later new) (mount_added tells msg reason events some) replayed
 
     pub remount_more : (id : TableId) (slot : ℕ) (known : Known) → (id ≡ old.table) × (slot ≡ old.slot) → known ≡ advanced old.slot (mount_event tells msg reason) old.known
         → IsLocked cluster table seen (record { node = new; table = id; slot = slot; known = known; is_due = is_due })
     remount_more id slot known kept added = locked_more seen cluster table old is.locked new is.is_node is.remounts.device is_due is.due (mount_event tells msg reason) id slot known kept added
         (subst (λ later. AreCounted later (seen new.disk).faults) (mount_added tells msg reason events some) counted) with_event
 
-    module _ (may : MayHandle cluster tells old.slot msg old.known) (few : old.known.crowded ≡ false) where
+    module _ (may : MayHandle cluster tells old.slot msg old.known) where
       -- the disk may hold something behind the event: what it holds, where it tells that, or what can be mounted
       disk : HasDisk cluster old.node.device (mount_event tells msg reason ∷ events)
       disk = ⊎_elim
           (λ told. subst (λ device. HasDisk cluster device (mount_event tells msg reason ∷ events)) is.remounts.device
-          (replayed_disk seen cluster (mount_event tells msg reason ∷ events) new (subst (λ b. IsTelling b (seen new.disk).told) told (is.telling new.disk)) (with_event few)))
+          (replayed_disk seen cluster (mount_event tells msg reason ∷ events) new (subst (λ b. IsTelling b (seen new.disk).told) told (is.telling new.disk)) with_event))
           (λ silent. subst (λ event. HasDisk cluster old.node.device (event ∷ events)) (sym (mount_unless tells msg reason silent))
           (mounts_too cluster old.node.device events
-          (subst (λ slot. HasDisk cluster old.node.device (history old.known.histories slot)) (slot_is cluster old.node.device old.slot is.locked.is_node.rules is.locked.slot) ((may.sound few).closed.replayed old.node.device))))
+          (subst (λ slot. HasDisk cluster old.node.device (history old.known.histories slot)) (slot_is cluster old.node.device old.slot is.locked.is_node.rules is.locked.slot) (may.sound.closed.replayed old.node.device))))
           (cases_Bool tells)
 
       -- so the event may be added
       pub remount_may : IsPlaceOf cluster (place_in msg) → MayAdvance cluster old.slot (mount_event tells msg reason) old.known
       remount_may place = record {
-        fair = mount_fair cluster (known_to cluster (view_of cluster old.known)) msg place tells reason (λ told. may.firm told few);
+        fair = mount_fair cluster (known_to cluster (view_of cluster old.known)) msg place tells reason (λ told. may.firm told);
         replayed = λ device has. subst (λ one. HasDisk cluster one (mount_event tells msg reason ∷ events)) (one_device cluster old.node.device device old.slot is.locked.slot has) disk;
       }

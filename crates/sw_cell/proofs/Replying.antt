@@ -79,10 +79,10 @@ module _ {D : Type 0} {seen : D → Seen} {left_since : D → Past} {tells : Boo
   due_after is_due (inr fine) = ⊎_elim (λ due. absurd (fine.0 (is.handled.is_due due))) (λ none. fine.1 ∙ sym none) (cases_Bool new.is_due)
 
   -- what the disk holds stands for the history behind it
-  replayed : old.known.crowded ≡ false → IsReplayed cluster seen (replied_events tells msg reply events) new
-  replayed few = replayed_if seen cluster (replied_events tells msg reply events) new tells (is.telling new.disk) (λ told.
+  replayed : IsReplayed cluster seen (replied_events tells msg reply events) new
+  replayed = replayed_if seen cluster (replied_events tells msg reply events) new tells (is.telling new.disk) (λ told.
       subst (λ later. IsReplayed cluster seen later new) (handled_if tells msg reply events told)
-      (handled seen left_since cluster events msg reply old.node new is.locked.is_node is.mounted is.place (is.may.step told few old.node.device is.locked.slot) (is.locked.replayed few) is.handled))
+      (handled seen left_since cluster events msg reply old.node new is.locked.is_node is.mounted is.place (is.may.step told old.node.device is.locked.slot) is.locked.replayed is.handled))
 
   -- and each failure was counted
   counted : AreCounted (replied_events tells msg reply events) (seen new.disk).faults
@@ -92,31 +92,30 @@ module _ {D : Type 0} {seen : D → Seen} {left_since : D → Past} {tells : Boo
   pub reply_still : reply ≡ NoMemory → (is_due : Bool) → is_due ≡ new.is_due → IsLocked cluster table seen (record { node = new; table = old.table; slot = old.slot; known = old.known; is_due = is_due })
   reply_still wanted is_due due = locked_still seen cluster table old is.locked new is.is_node is.handled.device is_due due
       (subst (λ one. AreCounted (replied_events tells msg one events) (seen new.disk).faults) wanted counted)
-      (λ few. subst (λ one. IsReplayed cluster seen (replied_events tells msg one events) new) wanted (replayed few))
+      (subst (λ one. IsReplayed cluster seen (replied_events tells msg one events) new) wanted replayed)
 
   module _ (some : reply ≢ NoMemory) where
     -- and else it is that with the event
-    with_event : old.known.crowded ≡ false → IsReplayed cluster seen (shown tells (event_of msg reply) ∷ events) new
-    with_event few = subst (λ later. IsReplayed cluster seen later new) (reply_added tells msg reply events some) (replayed few)
+    with_event : IsReplayed cluster seen (shown tells (event_of msg reply) ∷ events) new
+    with_event = subst (λ later. IsReplayed cluster seen later new) (reply_added tells msg reply events some) replayed
 
     pub reply_more : (is_due : Bool) → is_due ≡ new.is_due → (id : TableId) (slot : ℕ) (known : Known) → (id ≡ old.table) × (slot ≡ old.slot) → known ≡ advanced old.slot (shown tells (event_of msg reply)) old.known
         → IsLocked cluster table seen (record { node = new; table = id; slot = slot; known = known; is_due = is_due })
     reply_more is_due due id slot known kept added = locked_more seen cluster table old is.locked new is.is_node is.handled.device is_due due (shown tells (event_of msg reply)) id slot known kept added
         (subst (λ later. AreCounted later (seen new.disk).faults) (reply_added tells msg reply events some) counted) with_event
 
-    module _ (few : old.known.crowded ≡ false) where
-      -- the disk may hold something behind the event: what it holds, where it tells that, or what can be mounted
-      disk : HasDisk cluster old.node.device (shown tells (event_of msg reply) ∷ events)
-      disk = ⊎_elim
-          (λ told. subst (λ device. HasDisk cluster device (shown tells (event_of msg reply) ∷ events)) is.handled.device
-          (replayed_disk seen cluster (shown tells (event_of msg reply) ∷ events) new (subst (λ b. IsTelling b (seen new.disk).told) told (is.telling new.disk)) (with_event few)))
-          (λ silent. subst (λ event. HasDisk cluster old.node.device (event ∷ events)) (sym (shown_unless tells (event_of msg reply) silent))
-          (mounts_too cluster old.node.device events (is.may.replayed few old.node.device is.locked.slot)))
-          (cases_Bool tells)
+    -- the disk may hold something behind the event: what it holds, where it tells that, or what can be mounted
+    disk : HasDisk cluster old.node.device (shown tells (event_of msg reply) ∷ events)
+    disk = ⊎_elim
+        (λ told. subst (λ device. HasDisk cluster device (shown tells (event_of msg reply) ∷ events)) is.handled.device
+        (replayed_disk seen cluster (shown tells (event_of msg reply) ∷ events) new (subst (λ b. IsTelling b (seen new.disk).told) told (is.telling new.disk)) with_event))
+        (λ silent. subst (λ event. HasDisk cluster old.node.device (event ∷ events)) (sym (shown_unless tells (event_of msg reply) silent))
+        (mounts_too cluster old.node.device events (is.may.replayed old.node.device is.locked.slot)))
+        (cases_Bool tells)
 
-      -- so the event may be added
-      pub reply_may : MayAdvance cluster old.slot (shown tells (event_of msg reply)) old.known
-      reply_may = record {
-        fair = reply_fair cluster (known_to cluster (view_of cluster old.known)) msg is.place tells reply (λ told. is.may.firm told few);
-        replayed = λ device has. subst (λ one. HasDisk cluster one (shown tells (event_of msg reply) ∷ events)) (one_device cluster old.node.device device old.slot is.locked.slot has) disk;
-      }
+    -- so the event may be added
+    pub reply_may : MayAdvance cluster old.slot (shown tells (event_of msg reply)) old.known
+    reply_may = record {
+      fair = reply_fair cluster (known_to cluster (view_of cluster old.known)) msg is.place tells reply (λ told. is.may.firm told);
+      replayed = λ device has. subst (λ one. HasDisk cluster one (shown tells (event_of msg reply) ∷ events)) (one_device cluster old.node.device device old.slot is.locked.slot has) disk;
+    }

@@ -61,6 +61,6 @@ pub record IsCalled (cluster : ClusterModel) (tells : Bool) (slot : ℕ) (msg : 
   pub later : Continues past (history before.histories slot)
   pub replied : IsRepliedTo tells msg reply past (history after.histories slot)
 
--- a message is warranted by what a seat knows, where the disk tells what it holds, unless the seat found that 2^63 seats were made
+-- a message is warranted by what a seat knows, where the disk tells what it holds
 abbrev pub MayCall : ClusterModel → (tells : Bool) → Msg → Known → Type 0
-MayCall cluster tells msg known = tells ≡ true → known.crowded ≡ false → IsWarranted cluster (known_to cluster (view_of cluster known)) msg
+MayCall cluster tells msg known = tells ≡ true → IsWarranted cluster (known_to cluster (view_of cluster known)) msg

@@ -1,5 +1,5 @@
 -- What a node behind its lock needs for a message, and what it leaves of what its seat knows.
-use Rattle.std.specs.Prelude.{◌≡◌, ◌≢◌, ◌≤◌, ◌+◌, ◌*◌, ℕ, Bool, true, false, length, Option, Some, None}
+use Rattle.std.specs.Prelude.{◌≡◌, ◌≢◌, ℕ, Bool, true, Option, Some, None}
 use Rattle.sw_words.specs.Counts.{one_more}
 use Rattle.sw_ring.specs.Cluster.{ClusterModel}
 use Rattle.sw_message.specs.declared.message.Msg.{Msg}
@@ -14,30 +14,25 @@ use Rattle.sw_law_replayed.specs.Keeping.{HasStep}
 use Rattle.sw_pass.specs.Known.{HasSlot, history, view_of}
 use Rattle.sw_pass.specs.declared.known.Known.{Known}
 
--- The seat may add one event, it owes no loss, and unless it found that 2^63 seats were made the device's history, as it knows it, has a disk
--- that it may leave, and where the disk tells what it holds the message is firmly warranted by what the seat knows, and has a step.
+-- The seat owes no loss, the device's history, as it knows it, has a disk that it may leave, and where the disk tells what it holds the message is
+-- firmly warranted by what the seat knows, and has a step.
 pub record MayReply (cluster : ClusterModel) (tells : Bool) (slot : ℕ) (msg : Msg) (known : Known) : Type 0 where
-  pub room : length (history known.histories slot) ≤ 2 * known.joined
   pub none_owed : known.owing ≡ None
-  pub replayed : known.crowded ≡ false → (device : ℕ) → HasSlot cluster device slot → (disk : Disk) × Replays cluster device (history known.histories slot) disk
-  pub firm : tells ≡ true → known.crowded ≡ false → IsFirm cluster (known_to cluster (view_of cluster known)) msg
-  pub step : tells ≡ true → known.crowded ≡ false → (device : ℕ) → HasSlot cluster device slot → HasStep cluster device (history known.histories slot) msg
+  pub replayed : (device : ℕ) → HasSlot cluster device slot → (disk : Disk) × Replays cluster device (history known.histories slot) disk
+  pub firm : tells ≡ true → IsFirm cluster (known_to cluster (view_of cluster known)) msg
+  pub step : tells ≡ true → (device : ℕ) → HasSlot cluster device slot → HasStep cluster device (history known.histories slot) msg
 
--- The seat may add two events, it owes no loss, and unless it found that 2^63 seats were made what it knows is sound, and where the disk tells
--- what it holds the message is firmly warranted by that.
+-- The seat owes no loss, what it knows is sound, and where the disk tells what it holds the message is firmly warranted by that.
 pub record MayHandle (cluster : ClusterModel) (tells : Bool) (slot : ℕ) (msg : Msg) (known : Known) : Type 0 where
-  pub room : length (history known.histories slot) + 1 ≤ 2 * known.joined
   pub none_owed : known.owing ≡ None
-  pub sound : known.crowded ≡ false → IsSoundView cluster (view_of cluster known)
-  pub firm : tells ≡ true → known.crowded ≡ false → IsFirm cluster (known_to cluster (view_of cluster known)) msg
+  pub sound : IsSoundView cluster (view_of cluster known)
+  pub firm : tells ≡ true → IsFirm cluster (known_to cluster (view_of cluster known)) msg
 
 -- All that a seat knew it knows, and the history at a slot alone may be another.
 pub record HasAdded (slot : ℕ) (before after : Known) : Type 0 where
   pub kind : after.kind ≡ before.kind
   pub drawn : after.drawn ≡ before.drawn
   pub mark : after.mark ≡ before.mark
-  pub joined : after.joined ≡ before.joined
-  pub crowded : after.crowded ≡ before.crowded
   pub others : (other : ℕ) → other ≢ slot → history after.histories other ≡ history before.histories other
 
 -- the count of faults of a disk rose by one where the reply tells of a failure, and nowhere else

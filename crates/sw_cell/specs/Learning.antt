@@ -1,14 +1,13 @@
 -- What a seat that draws stamps has learnt behind a call.
-use Rattle.std.specs.Prelude.{◌≡◌, ◌≤◌, false}
+use Rattle.std.specs.Prelude.{◌≡◌, ◌≤◌}
 use Rattle.sw_ring.specs.Cluster.{ClusterModel}
 use Rattle.sw_view.specs.View.{IsSoundView}
 use Rattle.sw_pass.specs.Known.{AllAgree, Covers, view_of}
 use Rattle.sw_pass.specs.Steps.{old_of}
 use Rattle.sw_pass.specs.declared.known.Known.{Known}
 
--- It had not found that 2^63 seats were made, it knows all that it knew, and it neither raised nor drew.
+-- It knows all that it knew, and it neither raised nor drew.
 pub record HasGrown (before after : Known) : Type 0 where
-  pub few : before.crowded ≡ false
   pub covers : Covers after (old_of before)
   pub mark : before.mark ≤ after.mark
   pub clock : after.clock ≡ before.clock

@@ -1,5 +1,5 @@
 -- What stands behind the lock of a device.
-use Rattle.std.specs.Prelude.{◌≡◌, ◌⊎◌, ◌≤◌, ℕ, suc, Bool, false, List, [], ◌∷◌, None}
+use Rattle.std.specs.Prelude.{◌≡◌, ◌⊎◌, ◌≤◌, ℕ, suc, Bool, List, [], ◌∷◌, None}
 use Rattle.atomic_table.specs.Seated.{TableId}
 use Rattle.sw_words.specs.Counts.{last_count}
 use Rattle.sw_disk.specs.Runs.{Seen}
@@ -9,6 +9,7 @@ use Rattle.sw_view.specs.declared.event.Event.{Event}
 use Rattle.sw_view.specs.declared.event.Event.TheVariants.{Faulted, Handled, Mounted, Replaced}
 use Rattle.sw_law_replayed.specs.Standing.{IsReplayed}
 use Rattle.sw_pass.specs.Known.{HasSlot, history}
+use Rattle.sw_pass.specs.Steps.{able}
 use Rattle.sw_pass.specs.declared.known.Known.{Known}
 
 -- the table of no cluster
@@ -36,15 +37,18 @@ failures (Replaced loss ∷ past) = 0
 abbrev pub AreCounted : List Event → (faults : ℕ) → Type 0
 AreCounted events faults = (failures events ≤ faults) ⊎ (last_count ≤ faults)
 
--- What always holds of it: the node is one of the cluster, the slot that of its device, no loss is owed, and no more were drawn than notes were
--- joined; each failure in the history that the seat knows was counted by the disk, and what the disk holds is what that history replays to,
--- unless the seat found that 2^63 seats were made.
+-- What always holds of it: the node is one of the cluster, the slot that of its device, and no loss is owed; each failure in the history that the
+-- seat knows was counted by the disk, and what the disk holds is what that history replays to.
 pub record IsLocked {D : Type 0} (cluster : ClusterModel) (table : TableId) (seen : D → Seen) (locked : LockedModel D) : Type 0 where
   pub same_table : locked.table ≡ table
   pub is_node : IsNode cluster seen locked.node
   pub slot : HasSlot cluster locked.node.device locked.slot
   pub due : locked.is_due ≡ locked.node.is_due
   pub none_owed : locked.known.owing ≡ None
-  pub fewer : locked.known.lost ≤ locked.known.joined
   pub counted : AreCounted (history locked.known.histories locked.slot) (seen locked.node.disk).faults
-  pub replayed : locked.known.crowded ≡ false → IsReplayed cluster seen (history locked.known.histories locked.slot) locked.node
+  pub replayed : IsReplayed cluster seen (history locked.known.histories locked.slot) locked.node
+
+-- All is as it was, but that the seat may have found that another loss can be counted.
+pub record IsLike {D : Type 0} (before after : LockedModel D) : Type 0 where
+  pub others : after ≡ record before { known = after.known }
+  pub known : (after.known ≡ before.known) ⊎ (after.known ≡ able before.known)

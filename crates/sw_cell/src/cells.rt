@@ -1,6 +1,6 @@
 //! All nodes of a cluster, each behind a lock.
 
-ghost use Rattle.std.specs.Prelude.{◌≡◌, ◌==◌, ◌++◌, ◌<◌, ◌≤◌, ◌+◌, List, ℕ, IfErr, IfOk, IfSome, IsSome, OnOk, OnErr, Some, false, length, position, vec_capacity};
+ghost use Rattle.std.specs.Prelude.{◌≡◌, ◌==◌, ◌++◌, ◌<◌, ◌≤◌, ◌+◌, List, ℕ, IfErr, IfOk, IfSome, IsSome, OnOk, OnErr, Some, length, position, vec_capacity};
 ghost use Rattle.std.specs.List.{All};
 ghost use Rattle.sw_message.specs.Message.{IsMember};
 ghost use Rattle.sw_message.specs.Running.{IsOf};
@@ -108,7 +108,7 @@ impl<D: Disk + Drop, C: OfCluster, J: Site> Cells<D, C, J> {
         requires known { IsOf C.cluster device msg.now }
         requires warranted { MayCall C.cluster D.tells msg.now pass.old.known }
         ensures table { pass.new.table ≡ pass.old.table }
-        ensures called { pass.new.known.crowded ≡ false → IsCalled C.cluster D.tells (slot_of C.cluster device) msg.now result pass.old.known pass.new.known }
+        ensures called { IsCalled C.cluster D.tells (slot_of C.cluster device) msg.now result pass.old.known pass.new.known }
     {
         let slot = slot_among(self.cluster.devices(), device).unwrap();
         let mut locked = self.locks[slot].lock(rt);
@@ -116,8 +116,7 @@ impl<D: Disk + Drop, C: OfCluster, J: Site> Cells<D, C, J> {
         if usize::from(locked.position()) == slot {
             locked.call(alloc, &self.cluster, &self.table, pass, msg)
         } else {
-            let note = pass.note(&self.table);
-            pass.join(&self.table, note);
+            pass.learn(&self.table);
             Reply::NoMemory
         }
     }
@@ -136,7 +135,7 @@ impl<D: Disk + Drop, C: OfCluster, J: Site> Cells<D, C, J> {
         requires known { IsMember C.cluster device }
         requires empty { IfTold (D.seen disk).told (IsEmptyFor C.cluster device) }
         ensures table { pass.new.table ≡ pass.old.table }
-        ensures replaced { IfOk result (λ lost. pass.new.known.crowded ≡ false → IsReplaced C.cluster D.seen device (slot_of C.cluster device) pass.old.known pass.new.known lost) }
+        ensures replaced { IfOk result (λ lost. IsReplaced C.cluster D.seen device (slot_of C.cluster device) pass.old.known pass.new.known lost) }
         ensures pass { OnErr result (pass.new ≡ pass.old) }
         ensures refused { IfErr result (λ refused. ComesBack D.seen D.left_since C.cluster device disk refused.0 refused.1) }
     {
@@ -155,8 +154,8 @@ impl<D: Disk + Drop, C: OfCluster, J: Site> Cells<D, C, J> {
         requires table { pass.old.table ≡ J.table }
         ensures table { pass.new.table ≡ pass.old.table }
         ensures each { length result.items ≡ length C.cluster.devices }
-        ensures learnt { pass.new.known.crowded ≡ false → HasLearnt C.cluster pass.old.known pass.new.known }
-        ensures disks { pass.new.known.crowded ≡ false → All (λ one. IsDiskOf C.cluster D.seen pass.new.known one.0 one.1) result.items }
+        ensures learnt { HasLearnt C.cluster pass.old.known pass.new.known }
+        ensures disks { All (λ one. IsDiskOf C.cluster D.seen pass.new.known one.0 one.1) result.items }
     {
         let Cells {
             cluster,
@@ -233,9 +232,9 @@ fn close_each<D: Disk + Drop, C: OfCluster, J: Site>(
     requires room { length disks.old.items + length locks.old.items ≤ vec_capacity disks.old }
     ensures room { vec_capacity disks.old ≤ vec_capacity disks.new }
     ensures table { pass.new.table ≡ pass.old.table }
-    ensures grown { pass.new.known.crowded ≡ false → HasGrown pass.old.known pass.new.known }
-    ensures learnt { pass.new.known.crowded ≡ false → 0 < length locks.old.items → HasLearnt C.cluster pass.old.known pass.new.known }
-    ensures each { (more : List (ℕ × D)) × (disks.new.items ≡ disks.old.items ++ more) × (length more ≡ length locks.old.items) × (pass.new.known.crowded ≡ false → All (λ one. IsDiskOf C.cluster D.seen pass.new.known one.0 one.1) more) }
+    ensures grown { HasGrown pass.old.known pass.new.known }
+    ensures learnt { 0 < length locks.old.items → HasLearnt C.cluster pass.old.known pass.new.known }
+    ensures each { (more : List (ℕ × D)) × (disks.new.items ≡ disks.old.items ++ more) × (length more ≡ length locks.old.items) × All (λ one. IsDiskOf C.cluster D.seen pass.new.known one.0 one.1) more }
 {
     let Some(lock) = locks.pop() else {
         return;

@@ -1,6 +1,6 @@
 //! What stands behind the lock of a device.
 
-ghost use Rattle.std.specs.Prelude.{◌≡◌, ◌≤◌, ◌*◌, ◌∷◌, ℕ, IfErr, IfOk, OnErr, OnOk, false, true, None, Some, length};
+ghost use Rattle.std.specs.Prelude.{◌≡◌, ◌∷◌, ℕ, IfErr, IfOk, OnErr, OnOk, false, true, None, Some};
 ghost use Rattle.sw_message.specs.Message.{IsPlaceOf, place_in};
 ghost use Rattle.sw_disk.specs.Runs.{IfTold};
 ghost use Rattle.sw_objsrv.specs.Mounting.{Mounts, fault_of};
@@ -13,7 +13,8 @@ ghost use Rattle.sw_pass.specs.Steps.{MayAdvance, advanced, old_of};
 ghost use Rattle.sw_cell.specs.Calling.{HasReplied, IsCalled, MayCall, event_of, mount_event, remounted_events, replied_events, shown};
 ghost use Rattle.sw_cell.specs.Handling.{CountsReply, CountsMount, HasAdded, MayHandle, MayReply};
 ghost use Rattle.sw_cell.specs.Learning.{HasLearnt};
-ghost use Rattle.sw_cell.specs.Locked.{AreCounted};
+ghost use Rattle.sw_cell.specs.Cells.{ComesBack};
+ghost use Rattle.sw_cell.specs.Locked.{AreCounted, IsLike};
 ghost use Rattle.sw_cell.specs.Standing.{IsDiskOf, IsReplaced};
 
 use crate::site::Site;
@@ -54,7 +55,6 @@ impl<D: Disk, C: OfCluster, J: Site> Locked<D, C, J> {
         requires node { IsNode C.cluster D.seen node × (node.is_due ≡ false) }
         requires slot { HasSlot C.cluster node.device seat.slot }
         requires none_owed { seat.known.owing ≡ None }
-        requires fewer { seat.known.lost ≤ seat.known.joined }
         requires counted { AreCounted (history seat.known.histories seat.slot) (D.seen node.disk).faults }
         requires replayed { IsReplayed C.cluster D.seen (history seat.known.histories seat.slot) node }
         ensures { (result.node ≡ node) × (result.slot ≡ seat.slot) × (result.known ≡ seat.known) }
@@ -80,8 +80,8 @@ impl<D: Disk, C: OfCluster, J: Site> Locked<D, C, J> {
         requires table { (table.now ≡ J.table) × (pass.old.table ≡ J.table) }
         ensures same { self.new ≡ self.old }
         ensures table { pass.new.table ≡ pass.old.table }
-        ensures learnt { pass.new.known.crowded ≡ false → HasLearnt C.cluster pass.old.known pass.new.known }
-        ensures told { pass.new.known.crowded ≡ false → Covers pass.new.known (old_of self.old.known) }
+        ensures learnt { HasLearnt C.cluster pass.old.known pass.new.known }
+        ensures told { Covers pass.new.known (old_of self.old.known) }
     {
         pass.join(table, self.seat.note(table));
     }
@@ -89,12 +89,12 @@ impl<D: Disk, C: OfCluster, J: Site> Locked<D, C, J> {
     /// Gives the disk, of which the pass knows all that happened, and no more. Nothing that it knows of what happened changes.
     pub fn close(self, table: &StampTable<C>, pass: &mut Pass<C>) -> D
         requires table { (table.now ≡ J.table) × (pass.old.table ≡ J.table) }
-        requires told { pass.old.known.crowded ≡ false → Covers pass.old.known (old_of self.known) }
+        requires told { Covers pass.old.known (old_of self.known) }
         ensures table { pass.new.table ≡ pass.old.table }
-        ensures learnt { pass.new.known.crowded ≡ false → HasLearnt C.cluster pass.old.known pass.new.known }
-        ensures same { pass.new.known.crowded ≡ false → (slot : ℕ) → history pass.new.known.histories slot ≡ history pass.old.known.histories slot }
-        ensures whole { pass.new.known.crowded ≡ false → history pass.new.known.histories self.slot ≡ history self.known.histories self.slot }
-        ensures disk { pass.new.known.crowded ≡ false → IsDiskOf C.cluster D.seen pass.new.known self.node.device result }
+        ensures learnt { HasLearnt C.cluster pass.old.known pass.new.known }
+        ensures same { (slot : ℕ) → history pass.new.known.histories slot ≡ history pass.old.known.histories slot }
+        ensures whole { history pass.new.known.histories self.slot ≡ history self.known.histories self.slot }
+        ensures disk { IsDiskOf C.cluster D.seen pass.new.known self.node.device result }
     {
         let Locked {
             node,
@@ -108,7 +108,7 @@ impl<D: Disk, C: OfCluster, J: Site> Locked<D, C, J> {
     }
 
     /// Puts an empty disk in the place of the node's, which is lost and comes back. The new disk is mounted before the loss is counted; where that
-    /// is refused the old one stays.
+    /// is refused, or 2^63 losses were counted, the old one stays.
     pub fn replace(
         &mut self,
         alloc: Global,
@@ -125,7 +125,38 @@ impl<D: Disk, C: OfCluster, J: Site> Locked<D, C, J> {
         ensures slot { (self.new.slot ≡ self.old.slot) × (self.new.node.device ≡ self.old.node.device) }
         ensures table { pass.new.table ≡ pass.old.table }
         ensures lost { IfOk result (λ lost. lost ≡ self.old.node.disk) }
-        ensures replaced { IfOk result (λ lost. pass.new.known.crowded ≡ false → IsReplaced C.cluster D.seen device self.old.slot pass.old.known pass.new.known lost) }
+        ensures replaced { IfOk result (λ lost. IsReplaced C.cluster D.seen device self.old.slot pass.old.known pass.new.known lost) }
+        ensures added { IfOk result (λ lost. (loss : ℕ) × (history self.new.known.histories self.old.slot ≡ Replaced loss ∷ history self.old.known.histories self.old.slot)) }
+        ensures quiet { OnOk result ((D.seen self.new.node.disk).faults ≡ (D.seen disk).faults) }
+        ensures same { OnErr result (IsLike self.old self.new × (pass.new ≡ pass.old)) }
+        ensures refused { IfErr result (λ refused. ComesBack D.seen D.left_since C.cluster device disk refused.0 refused.1) }
+    {
+        if self.seat.may_lose(table) {
+            self.replace_counted(alloc, cluster, table, pass, device, disk)
+        } else {
+            Err((disk, MountFault::NoMemory))
+        }
+    }
+
+    // Does so where the loss can be counted.
+    fn replace_counted(
+        &mut self,
+        alloc: Global,
+        cluster: &Cluster,
+        table: &StampTable<C>,
+        pass: &mut Pass<C>,
+        device: u16,
+        disk: D,
+    ) -> Result<D, (D, MountFault)>
+        requires table { (table.now ≡ J.table) × (pass.old.table ≡ J.table) }
+        requires cluster { cluster.now ≡ C.cluster }
+        requires slot { HasSlot C.cluster device self.old.slot }
+        requires empty { IfTold (D.seen disk).told (IsEmptyFor C.cluster device) }
+        requires able { self.old.known.losing ≡ true }
+        ensures slot { (self.new.slot ≡ self.old.slot) × (self.new.node.device ≡ self.old.node.device) }
+        ensures table { pass.new.table ≡ pass.old.table }
+        ensures lost { IfOk result (λ lost. lost ≡ self.old.node.disk) }
+        ensures replaced { IfOk result (λ lost. IsReplaced C.cluster D.seen device self.old.slot pass.old.known pass.new.known lost) }
         ensures added { IfOk result (λ lost. (loss : ℕ) × (history self.new.known.histories self.old.slot ≡ Replaced loss ∷ history self.old.known.histories self.old.slot)) }
         ensures quiet { OnOk result ((D.seen self.new.node.disk).faults ≡ (D.seen disk).faults) }
         ensures same { OnErr result ((self.new ≡ self.old) × (pass.new ≡ pass.old)) }
@@ -145,9 +176,8 @@ impl<D: Disk, C: OfCluster, J: Site> Locked<D, C, J> {
     fn add_loss<E: Happening>(seat: &mut NodeSeat<C>, table: &StampTable<C>, loss: u64)
         requires event { E.event ≡ Replaced loss }
         requires table { seat.old.table ≡ table.now }
-        requires room { length (history seat.old.known.histories seat.old.slot) ≤ 2 * seat.old.known.joined }
         requires owed { seat.old.known.owing ≡ Some loss }
-        requires may { seat.old.known.crowded ≡ false → MayAdvance C.cluster seat.old.slot (Replaced loss) seat.old.known }
+        requires may { MayAdvance C.cluster seat.old.slot (Replaced loss) seat.old.known }
         ensures table { (seat.new.table ≡ seat.old.table) × (seat.new.slot ≡ seat.old.slot) }
         ensures known { seat.new.known ≡ advanced seat.old.slot (Replaced loss) seat.old.known }
     {
@@ -169,7 +199,7 @@ impl<D: Disk, C: OfCluster, J: Site> Locked<D, C, J> {
         requires warranted { MayCall C.cluster D.tells msg.now pass.old.known }
         ensures slot { (self.new.slot ≡ self.old.slot) × (self.new.node.device ≡ self.old.node.device) }
         ensures table { pass.new.table ≡ pass.old.table }
-        ensures called { pass.new.known.crowded ≡ false → IsCalled C.cluster D.tells self.old.slot msg.now result pass.old.known pass.new.known }
+        ensures called { IsCalled C.cluster D.tells self.old.slot msg.now result pass.old.known pass.new.known }
         ensures replied { HasReplied D.tells self.old.is_due msg.now result (history self.old.known.histories self.old.slot) (history self.new.known.histories self.old.slot) }
         ensures counts { CountsReply result (D.seen self.old.node.disk).faults (D.seen self.new.node.disk).faults }
     {
@@ -245,9 +275,8 @@ impl<D: Disk, C: OfCluster, J: Site> Locked<D, C, J> {
     )
         requires event { E.event ≡ mount_event D.tells msg.now (fault_of mounted.now) }
         requires table { seat.old.table ≡ table.now }
-        requires room { length (history seat.old.known.histories seat.old.slot) ≤ 2 * seat.old.known.joined }
         requires none_owed { seat.old.known.owing ≡ None }
-        requires may { seat.old.known.crowded ≡ false → MayAdvance C.cluster seat.old.slot (mount_event D.tells msg.now (fault_of mounted.now)) seat.old.known }
+        requires may { MayAdvance C.cluster seat.old.slot (mount_event D.tells msg.now (fault_of mounted.now)) seat.old.known }
         ensures table { (seat.new.table ≡ seat.old.table) × (seat.new.slot ≡ seat.old.slot) }
         ensures known { seat.new.known ≡ advanced seat.old.slot (mount_event D.tells msg.now (fault_of mounted.now)) seat.old.known }
     {
@@ -283,9 +312,8 @@ impl<D: Disk, C: OfCluster, J: Site> Locked<D, C, J> {
     )
         requires event { E.event ≡ shown D.tells (event_of msg.now reply.now) }
         requires table { seat.old.table ≡ table.now }
-        requires room { length (history seat.old.known.histories seat.old.slot) ≤ 2 * seat.old.known.joined }
         requires none_owed { seat.old.known.owing ≡ None }
-        requires may { seat.old.known.crowded ≡ false → MayAdvance C.cluster seat.old.slot (shown D.tells (event_of msg.now reply.now)) seat.old.known }
+        requires may { MayAdvance C.cluster seat.old.slot (shown D.tells (event_of msg.now reply.now)) seat.old.known }
         ensures table { (seat.new.table ≡ seat.old.table) × (seat.new.slot ≡ seat.old.slot) }
         ensures known { seat.new.known ≡ advanced seat.old.slot (shown D.tells (event_of msg.now reply.now)) seat.old.known }
     {

@@ -30,12 +30,11 @@ use Rattle.sw_law_reading.proofs.Shows.{found_over, never_older, shows as all_sh
 use Rattle.sw_local.specs.Link.{Calls, Draws, LocalModel, Spent}
 use Rattle.sw_law_served.specs.Served.{AnswerShows, DeleteWent, GetWent, MayServe, MethodShows, PutWent, ShowsSoundly, WentBy, get_of, local_ways, put_drawn, view_by}
 use Rattle.sw_law_served.proofs.Calls.{sound_behind, went_by}
-use Rattle.sw_law_served.proofs.Draws.{few_drawn, few_spent, grown_by, grown_spent, has_put, lost_same}
+use Rattle.sw_law_served.proofs.Draws.{grown_by, grown_spent, has_put, lost_same}
 use Rattle.sw_law_served.proofs.Lost.{lost_kept}
 
 -- what a stretch of a connection leaves of the link
 pub record IsLeft {T : Type 0} (cluster : ClusterModel) (before after : LocalModel T) : Type 0 where
-  pub few : before.known.crowded ≡ false
   pub grows : Grows (view_by cluster before) (view_by cluster after)
   pub sound : IsSoundView cluster (view_by cluster after)
 
@@ -43,26 +42,25 @@ module _ {T : Type 0} (cluster : ClusterModel) (losses : LocalModel T → ℕ) (
   -- ---- an operation's calls
 
   module _ (own : Own) (machine : List Step → Next → Type 0) (before : LocalModel T) (past : List Step) (after : LocalModel T) (may : MayServe cluster before)
-      (over : WentOver (Calls cluster true) losses learnt cluster own machine before past after) (few : after.known.crowded ≡ false) where
+      (over : WentOver (Calls cluster true) losses learnt cluster own machine before past after) where
     lost_none : after.lost ≡ []
     lost_none = lost_kept cluster true losses before past after over.calls_are ∙ may.none_lost
 
     pub went : WentBy cluster before past after
-    went = went_by cluster losses before past after over.calls_are (few, lost_none)
+    went = went_by cluster losses before past after over.calls_are lost_none
 
     pub sound_first : IsSoundView cluster (view_by cluster before)
-    sound_first = may.sound went.grown.few
+    sound_first = may.sound
 
     pub left : IsLeft cluster before after
     left = record {
-      few = went.grown.few;
       grows = grown cluster (view_by cluster before) past (view_by cluster after) went.calls;
       sound = sound_behind cluster before after past went.calls sound_first;
     }
 
   -- ---- gets
 
-  module _ (name : NameModel) (before after : LocalModel T) (may : MayServe cluster before) (few : after.known.crowded ≡ false) where
+  module _ (name : NameModel) (before after : LocalModel T) (may : MayServe cluster before) where
     if_found : (past : List Step) → IsRun (gets.IsNext (get_of cluster name)) past → AreCallsOver cluster (view_by cluster before) past (view_by cluster after) → IsSoundView cluster (view_by cluster before)
         → (end : GetEnd) → gets.IsEnd (get_of cluster name) past end → IfFound end (IsFoundIn cluster (view_by cluster after) (get_of cluster name) past)
     if_found past run calls sound (Found stamp object sources) ended = found_over cluster (view_by cluster before) (view_by cluster after) (get_of cluster name) past stamp object sources sound refl run calls ended
@@ -70,8 +68,8 @@ module _ {T : Type 0} (cluster : ClusterModel) (losses : LocalModel T → ℕ) (
 
     pub get_went : (end : GetEnd) → GetsOver (Calls cluster true) losses learnt (get_of cluster name) before (Ok end) after → GetWent cluster name before end after
     get_went end (past, over, ended, finds) =
-        let by : WentBy cluster before past after = went _ _ before past after may over few in
-        let sound : IsSoundView cluster (view_by cluster before) = sound_first _ _ before past after may over few in
+        let by : WentBy cluster before past after = went _ _ before past after may over in
+        let sound : IsSoundView cluster (view_by cluster before) = sound_first _ _ before past after may over in
         record {
           past = past;
           run = over.run;
@@ -85,20 +83,19 @@ module _ {T : Type 0} (cluster : ClusterModel) (losses : LocalModel T → ℕ) (
         }
 
     pub get_left : (result : Result GetEnd Refused) → GetsOver (Calls cluster true) losses learnt (get_of cluster name) before result after → IsLeft cluster before after
-    get_left (Ok end) (past, over, ended, finds) = left _ _ before past after may over few
-    get_left (Err refused) (past, over) = left _ _ before past after may over few
+    get_left (Ok end) (past, over, ended, finds) = left _ _ before past after may over
+    get_left (Err refused) (past, over) = left _ _ before past after may over
 
   -- ---- puts and deletes
 
-  module _ (shows : T → ℕ → Type 0) (name : NameModel) (before after : LocalModel T) (may : MayServe cluster before) (few : after.known.crowded ≡ false) where
+  module _ (shows : T → ℕ → Type 0) (name : NameModel) (before after : LocalModel T) (may : MayServe cluster before) where
     -- behind a draw
     may_still : (object : Option ObjectModel) (stamp : ℕ) (drawn : LocalModel T) → Draws cluster shows before name object (Ok stamp) drawn → MayServe cluster drawn
-    may_still object stamp drawn (draw, knows) = record { none_lost = lost_same cluster shows before name object stamp drawn draw ∙ may.none_lost; sound = λ is. (knows is).0 }
+    may_still object stamp drawn (draw, knows) = record { none_lost = lost_same cluster shows before name object stamp drawn draw ∙ may.none_lost; sound = knows.0 }
 
     -- and what went over the link behind that
     left_behind : (object : Option ObjectModel) (stamp : ℕ) (drawn : LocalModel T) (draw : Draws cluster shows before name object (Ok stamp) drawn) → IsLeft cluster drawn after → IsLeft cluster before after
     left_behind object stamp drawn draw is = record {
-      few = few_drawn cluster shows before name object stamp drawn draw.0 is.few;
       grows = grows_both (view_by cluster before) (view_by cluster drawn) (view_by cluster after) (grown_by cluster shows before name object stamp drawn draw.0) is.grows;
       sound = is.sound;
     }
@@ -106,8 +103,8 @@ module _ {T : Type 0} (cluster : ClusterModel) (losses : LocalModel T → ℕ) (
     pub put_went : (object : ObjectModel) (end : PutEnd) → PutsOver (Draws cluster shows) (Calls cluster true) losses learnt cluster name object before (Ok end) after → PutWent cluster shows name object before end after
     put_went object end (stamp, past, drew, ended) =
         let still : MayServe cluster drew.drawn = may_still (Some object) stamp drew.drawn drew.draw in
-        let by : WentBy cluster drew.drawn past after = went _ _ drew.drawn past after still drew.went few in
-        let sound : IsSoundView cluster (view_by cluster drew.drawn) = sound_first _ _ drew.drawn past after still drew.went few in
+        let by : WentBy cluster drew.drawn past after = went _ _ drew.drawn past after still drew.went in
+        let sound : IsSoundView cluster (view_by cluster drew.drawn) = sound_first _ _ drew.drawn past after still drew.went in
         record {
           stamp = stamp;
           drawn = drew.drawn;
@@ -128,23 +125,23 @@ module _ {T : Type 0} (cluster : ClusterModel) (losses : LocalModel T → ℕ) (
       draw = drew.draw.0;
       past = past;
       run = drew.went.run;
-      went = went _ _ drew.drawn past after (may_still None stamp drew.drawn drew.draw) drew.went few;
+      went = went _ _ drew.drawn past after (may_still None stamp drew.drawn drew.draw) drew.went;
       ended = ended;
     }
 
     -- no stamp was drawn
-    spent_left : Spent shows before after → (after.known.crowded ≡ false → IsSoundView cluster (view_by cluster after)) → IsLeft cluster before after
-    spent_left spent sound = record { few = few_spent shows before after spent few; grows = grown_spent shows before after spent cluster; sound = sound few }
+    spent_left : Spent shows before after → IsSoundView cluster (view_by cluster after) → IsLeft cluster before after
+    spent_left spent sound = record { grows = grown_spent shows before after spent cluster; sound = sound }
 
     pub put_left : (object : ObjectModel) (result : Result PutEnd FrontFault) → PutsOver (Draws cluster shows) (Calls cluster true) losses learnt cluster name object before result after → IsLeft cluster before after
-    put_left object (Ok end) (stamp, past, drew, ended) = left_behind (Some object) stamp drew.drawn drew.draw (left _ _ drew.drawn past after (may_still (Some object) stamp drew.drawn drew.draw) drew.went few)
-    put_left object (Err fault.StampsSpent) (spent, knows) = spent_left spent (λ is. (knows is).0)
-    put_left object (Err fault.NoMemory) (stamp, past, drew) = left_behind (Some object) stamp drew.drawn drew.draw (left _ _ drew.drawn past after (may_still (Some object) stamp drew.drawn drew.draw) drew.went few)
+    put_left object (Ok end) (stamp, past, drew, ended) = left_behind (Some object) stamp drew.drawn drew.draw (left _ _ drew.drawn past after (may_still (Some object) stamp drew.drawn drew.draw) drew.went)
+    put_left object (Err fault.StampsSpent) (spent, knows) = spent_left spent knows.0
+    put_left object (Err fault.NoMemory) (stamp, past, drew) = left_behind (Some object) stamp drew.drawn drew.draw (left _ _ drew.drawn past after (may_still (Some object) stamp drew.drawn drew.draw) drew.went)
 
     pub delete_left : (result : Result DeleteEnd FrontFault) → DeletesOver (Draws cluster shows) (Calls cluster true) losses learnt cluster name before result after → IsLeft cluster before after
-    delete_left (Ok end) (stamp, past, drew, ended) = left_behind None stamp drew.drawn drew.draw (left _ _ drew.drawn past after (may_still None stamp drew.drawn drew.draw) drew.went few)
-    delete_left (Err fault.StampsSpent) (spent, knows) = spent_left spent (λ is. (knows is).0)
-    delete_left (Err fault.NoMemory) (stamp, past, drew) = left_behind None stamp drew.drawn drew.draw (left _ _ drew.drawn past after (may_still None stamp drew.drawn drew.draw) drew.went few)
+    delete_left (Ok end) (stamp, past, drew, ended) = left_behind None stamp drew.drawn drew.draw (left _ _ drew.drawn past after (may_still None stamp drew.drawn drew.draw) drew.went)
+    delete_left (Err fault.StampsSpent) (spent, knows) = spent_left spent knows.0
+    delete_left (Err fault.NoMemory) (stamp, past, drew) = left_behind None stamp drew.drawn drew.draw (left _ _ drew.drawn past after (may_still None stamp drew.drawn drew.draw) drew.went)
 
 -- ---- requests
 
@@ -158,36 +155,36 @@ module _ {T : Type 0} (cluster : ClusterModel) (shows : T → ℕ → Type 0) wh
   abbrev learnt : Learning (LocalModel T)
   learnt = ways.learnt
 
-  module _ (request : RequestModel) (before after : LocalModel T) (may : MayServe cluster before) (few : after.known.crowded ≡ false) (name : NameModel) (close : Bool) where
+  module _ (request : RequestModel) (before after : LocalModel T) (may : MayServe cluster before) (name : NameModel) (close : Bool) where
     method_shows : (method : Method) (answer : AnswerModel) → MethodAnswers ways cluster request name method close before (Ok answer) after → MethodShows cluster shows request name method close before answer after
     method_shows Put answer answers = ⊎_elim
-        (λ ended. inl (ended.0, put_went cluster losses learnt shows name before after may few (object_of (head_in request.head.fields) request.body) ended.0 ended.1, ended.2))
+        (λ ended. inl (ended.0, put_went cluster losses learnt shows name before after may (object_of (head_in request.head.fields) request.body) ended.0 ended.1, ended.2))
         (λ spent. inr (spent.0.0, spent.2))
         answers
-    method_shows Get answer (end, over, is) = (end, get_went cluster losses learnt name before after may few end over, is)
-    method_shows Head answer (end, over, is) = (end, get_went cluster losses learnt name before after may few end over, is)
+    method_shows Get answer (end, over, is) = (end, get_went cluster losses learnt name before after may end over, is)
+    method_shows Head answer (end, over, is) = (end, get_went cluster losses learnt name before after may end over, is)
     method_shows Delete answer answers = ⊎_elim
-        (λ ended. inl (ended.0, delete_went cluster losses learnt shows name before after may few ended.0 ended.1, ended.2))
+        (λ ended. inl (ended.0, delete_went cluster losses learnt shows name before after may ended.0 ended.1, ended.2))
         (λ spent. inr (spent.0.0, spent.2))
         answers
 
     put_answers_left : (object : ObjectModel) (result : Result AnswerModel Refused) → PutAnswers ways cluster name object close before result after → IsLeft cluster before after
     put_answers_left object (Ok answer) answers = ⊎_elim
-        (λ ended. put_left cluster losses learnt shows name before after may few object (Ok ended.0) ended.1)
-        (λ spent. put_left cluster losses learnt shows name before after may few object (Err fault.StampsSpent) spent.0)
+        (λ ended. put_left cluster losses learnt shows name before after may object (Ok ended.0) ended.1)
+        (λ spent. put_left cluster losses learnt shows name before after may object (Err fault.StampsSpent) spent.0)
         answers
-    put_answers_left object (Err refused) (result, over) = put_left cluster losses learnt shows name before after may few object result over
+    put_answers_left object (Err refused) (result, over) = put_left cluster losses learnt shows name before after may object result over
 
     get_answers_left : (to_head : Bool) (result : Result AnswerModel Refused) → GetAnswers ways cluster name to_head close before result after → IsLeft cluster before after
-    get_answers_left to_head (Ok answer) (end, over, is) = get_left cluster losses learnt name before after may few (Ok end) over
-    get_answers_left to_head (Err refused) (result, over) = get_left cluster losses learnt name before after may few result over
+    get_answers_left to_head (Ok answer) (end, over, is) = get_left cluster losses learnt name before after may (Ok end) over
+    get_answers_left to_head (Err refused) (result, over) = get_left cluster losses learnt name before after may result over
 
     delete_answers_left : (result : Result AnswerModel Refused) → DeleteAnswers ways cluster name close before result after → IsLeft cluster before after
     delete_answers_left (Ok answer) answers = ⊎_elim
-        (λ ended. delete_left cluster losses learnt shows name before after may few (Ok ended.0) ended.1)
-        (λ spent. delete_left cluster losses learnt shows name before after may few (Err fault.StampsSpent) spent.0)
+        (λ ended. delete_left cluster losses learnt shows name before after may (Ok ended.0) ended.1)
+        (λ spent. delete_left cluster losses learnt shows name before after may (Err fault.StampsSpent) spent.0)
         answers
-    delete_answers_left (Err refused) (result, over) = delete_left cluster losses learnt shows name before after may few result over
+    delete_answers_left (Err refused) (result, over) = delete_left cluster losses learnt shows name before after may result over
 
     method_left : (method : Method) (result : Result AnswerModel Refused) → MethodAnswers ways cluster request name method close before result after → IsLeft cluster before after
     method_left Put result answers = put_answers_left (object_of (head_in request.head.fields) request.body) result answers
@@ -195,10 +192,9 @@ module _ {T : Type 0} (cluster : ClusterModel) (shows : T → ℕ → Type 0) wh
     method_left Head result answers = get_answers_left true result answers
     method_left Delete result answers = delete_answers_left result answers
 
-  module _ (request : RequestModel) (before after : LocalModel T) (may : MayServe cluster before) (few : after.known.crowded ≡ false) where
+  module _ (request : RequestModel) (before after : LocalModel T) (may : MayServe cluster before) where
     untouched : after ≡ before → IsLeft cluster before after
-    untouched same = subst (λ (link : LocalModel T). IsLeft cluster before link) (sym same) (let were = subst (λ (link : LocalModel T). link.known.crowded ≡ false) same few in
-        record { few = were; grows = grows_same (view_by cluster before); sound = may.sound were })
+    untouched same = subst (λ (link : LocalModel T). IsLeft cluster before link) (sym same) (record { grows = grows_same (view_by cluster before); sound = may.sound })
 
     refused_left : (result : Result AnswerModel Refused) (close : Bool) → Refuses ways cluster request close before result after → IsLeft cluster before after
     refused_left (Ok answer) close refuses = untouched refuses.2
@@ -207,7 +203,7 @@ module _ {T : Type 0} (cluster : ClusterModel) (shows : T → ℕ → Type 0) wh
     is_left : (result : Result AnswerModel Refused) → Answers ways cluster request before result after → IsLeft cluster before after
     is_left result (tells, close, asks, answers) = ⊎_elim
         (refused_left result close)
-        (λ operates. method_left request before after may few operates.name close operates.method result operates.answers)
+        (λ operates. method_left request before after may operates.name close operates.method result operates.answers)
         answers
 
     answer_shows : (result : Result AnswerModel Refused) → Answers ways cluster request before result after → AnswerShows cluster shows request before result after
@@ -221,7 +217,7 @@ module _ {T : Type 0} (cluster : ClusterModel) (shows : T → ℕ → Type 0) wh
             named = operates.named;
             method = operates.method;
             is_method = operates.is_method;
-            shown = method_shows request before after may few operates.name close operates.method answer operates.answers;
+            shown = method_shows request before after may operates.name close operates.method answer operates.answers;
           }))
           answers,
     )
@@ -230,4 +226,4 @@ module _ {T : Type 0} (cluster : ClusterModel) (shows : T → ℕ → Type 0) wh
     pub shows_soundly : (result : Result AnswerModel Refused) → Answers ways cluster request before result after → ShowsSoundly cluster shows request before result after
     shows_soundly result answers =
         let left = is_left result answers in
-        record { few = left.few; grows = left.grows; sound = left.sound; shown = answer_shows result answers }
+        record { grows = left.grows; sound = left.sound; shown = answer_shows result answers }

@@ -1,5 +1,5 @@
 -- The calls of an operation over nodes behind locks, none of which is lost, are a chain of views, and the pass draws nothing by them.
-use Rattle.std.proofs.Common.{◌≡◌, ⊎_elim, ℕ, true, false, Contains, List, [], ◌∷◌, Option, Some, None, refl, sym, ap, subst, ◌∙◌, arith}
+use Rattle.std.proofs.Common.{◌≡◌, ⊎_elim, ℕ, true, Contains, List, [], ◌∷◌, Option, Some, None, refl, sym, ap, subst, ◌∙◌, arith}
 use Rattle.sw_words.specs.Counts.{one_more}
 use Rattle.sw_diskfile.proofs.Lists.{Contains-none}
 use Rattle.sw_ring.specs.Cluster.{ClusterModel}
@@ -21,13 +21,12 @@ use Rattle.sw_cell.specs.Calling.{IsCalled, IsRepliedTo}
 use Rattle.sw_cell.specs.Learning.{HasGrown}
 use Rattle.sw_local.specs.Link.{Calls, LocalModel}
 use Rattle.sw_local.proofs.Hearing.{learnt_grows}
-use Rattle.sw_law_served.specs.Served.{WentBy, view_by}
+use Rattle.sw_law_served.specs.Served.{AreAnswered, WentBy, view_by}
 
 -- ---- what is known only grows
 
-pub grown_same : (known : Known) → known.crowded ≡ false → HasGrown known known
-grown_same known few = record {
-  few = few;
+pub grown_same : (known : Known) → HasGrown known known
+grown_same known = record {
   covers = record { drawn = λ fact has. has; histories = λ slot. continues_itself (history known.histories slot) };
   mark = omega arith;
   clock = refl;
@@ -36,7 +35,6 @@ grown_same known few = record {
 
 pub grown_both : (first second third : Known) → HasGrown first second → HasGrown second third → HasGrown first third
 grown_both first second third one other = record {
-  few = one.few;
   covers = record {
     drawn = λ fact has. other.covers.drawn fact (one.covers.drawn fact has);
     histories = λ slot. continues_more (history third.histories slot) (history second.histories slot) (history first.histories slot) (other.covers.histories slot) (one.covers.histories slot);
@@ -62,20 +60,20 @@ module _ (cluster : ClusterModel) (device : ℕ) (msg : Msg) (before after : Kno
   adds_reply given called = (called.replied.middle, continues_more _ called.past _ (middle_on msg given called.past _ called.replied) called.later, called.replied.latest)
 
 module _ {T : Type 0} (cluster : ClusterModel) where
-  -- a link that tells, and loses no call
-  abbrev pub Tells : LocalModel T → Type 0
-  Tells link = (link.known.crowded ≡ false) × (link.lost ≡ [])
+  -- a link that loses no call
+  abbrev pub LosesNone : LocalModel T → Type 0
+  LosesNone link = link.lost ≡ []
 
-  one_call : (before : LocalModel T) (device : ℕ) (msg : Msg) (answer : Option Reply) (after : LocalModel T) → Calls cluster true before device msg answer after → Tells after
-      → (Tells before × IsCall cluster (view_by cluster before) device msg answer (view_by cluster after)) × HasGrown before.known after.known
-  one_call before device msg None after lost tells =
+  one_call : (before : LocalModel T) (device : ℕ) (msg : Msg) (answer : Option Reply) (after : LocalModel T) → Calls cluster true before device msg answer after → LosesNone after
+      → (LosesNone before × IsCall cluster (view_by cluster before) device msg answer (view_by cluster after)) × HasGrown before.known after.known
+  one_call before device msg None after lost none =
       let same : after.lost ≡ before.lost = ap (λ (link : LocalModel T). link.lost) lost.after_is in
-      absurd (Contains-none (one_more before.calls) (subst (λ (numbers : List ℕ). Contains numbers (one_more before.calls)) (sym same ∙ tells.1) lost.lost))
-  one_call before device msg (Some given) after was tells =
-      let called = was.called tells.0 in
+      absurd (Contains-none (one_more before.calls) (subst (λ (numbers : List ℕ). Contains numbers (one_more before.calls)) (sym same ∙ none) lost.lost))
+  one_call before device msg (Some given) after was none =
+      let called = was.called in
       let same : after.lost ≡ before.lost = ap (λ (link : LocalModel T). link.lost) was.after_is in (
         (
-          (called.learnt.grown.few, sym same ∙ tells.1),
+          sym same ∙ none,
           record {
             member = was.member;
             grows = learnt_grows cluster before.known after.known called.learnt.grown;
@@ -89,19 +87,31 @@ module _ {T : Type 0} (cluster : ClusterModel) where
   -- ---- all of them
 
   module _ (losses : LocalModel T → ℕ) where
-    all_grown : (before : LocalModel T) (past : List Step) (after : LocalModel T) → AreCalls (Calls cluster true) losses before past after → Tells after → HasGrown before.known after.known
-    all_grown before [] after same tells = subst (λ (link : LocalModel T). HasGrown before.known link.known) same (grown_same before.known (subst (λ (link : LocalModel T). link.known.crowded ≡ false) (sym same) tells.0))
-    all_grown before (Gave sent ∷ more) after none tells = absurd none
-    all_grown before (Closed sent answer ∷ []) after none tells = absurd none
-    all_grown before (Closed sent answer ∷ Closed same again ∷ more) after none tells = absurd none
-    all_grown before (Closed sent answer ∷ Gave same ∷ more) after (between, were, same_is, call, counts) tells =
-        let last = one_call between sent.device sent.msg answer after call tells in
+    all_grown : (before : LocalModel T) (past : List Step) (after : LocalModel T) → AreCalls (Calls cluster true) losses before past after → LosesNone after → HasGrown before.known after.known
+    all_grown before [] after same none = subst (λ (link : LocalModel T). HasGrown before.known link.known) same (grown_same before.known)
+    all_grown before (Gave sent ∷ more) after wrong none = absurd wrong
+    all_grown before (Closed sent answer ∷ []) after wrong none = absurd wrong
+    all_grown before (Closed sent answer ∷ Closed same again ∷ more) after wrong none = absurd wrong
+    all_grown before (Closed sent answer ∷ Gave same ∷ more) after (between, were, same_is, call, counts) none =
+        let last = one_call between sent.device sent.msg answer after call none in
         grown_both before.known between.known after.known (all_grown before more between were last.0.0) last.1
 
-    pub went_by : (before : LocalModel T) (past : List Step) (after : LocalModel T) → AreCalls (Calls cluster true) losses before past after → Tells after → WentBy cluster before past after
-    went_by before past after calls tells = record {
-      calls = (chained (Calls cluster true) losses (view_by cluster) Tells cluster (λ first device msg answer second call is. (one_call first device msg answer second call is).0) before past after calls tells).1;
-      grown = all_grown before past after calls tells;
+    all_answered : (before : LocalModel T) (past : List Step) (after : LocalModel T) → AreCalls (Calls cluster true) losses before past after → LosesNone after → AreAnswered past
+    all_answered before [] after same none = tt
+    all_answered before (Gave sent ∷ more) after wrong none = absurd wrong
+    all_answered before (Closed sent answer ∷ []) after wrong none = absurd wrong
+    all_answered before (Closed sent answer ∷ Closed same again ∷ more) after wrong none = absurd wrong
+    all_answered before (Closed sent None ∷ Gave same ∷ more) after (between, were, same_is, call, counts) none =
+        let same_lost : after.lost ≡ between.lost = ap (λ (link : LocalModel T). link.lost) call.after_is in
+        Contains-none (one_more between.calls) (subst (λ (numbers : List ℕ). Contains numbers (one_more between.calls)) (sym same_lost ∙ none) call.lost)
+    all_answered before (Closed sent (Some given) ∷ Gave same ∷ more) after (between, were, same_is, call, counts) none =
+        all_answered before more between were (one_call between sent.device sent.msg (Some given) after call none).0.0
+
+    pub went_by : (before : LocalModel T) (past : List Step) (after : LocalModel T) → AreCalls (Calls cluster true) losses before past after → LosesNone after → WentBy cluster before past after
+    went_by before past after calls none = record {
+      calls = (chained (Calls cluster true) losses (view_by cluster) LosesNone cluster (λ first device msg answer second call is. (one_call first device msg answer second call is).0) before past after calls none).1;
+      answered = all_answered before past after calls none;
+      grown = all_grown before past after calls none;
     }
 
   -- what was sound is so still

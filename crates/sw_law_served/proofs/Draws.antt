@@ -1,5 +1,5 @@
 -- A draw of a link over nodes behind locks: the view has the put then, it has grown, and is sound still.
-use Rattle.std.proofs.Common.{◌≡◌, ⊎_elim, ℕ, false, Contains, List, [], ◌∷◌, Option, Some, sym, ap, subst, ◌∙◌}
+use Rattle.std.proofs.Common.{◌≡◌, ⊎_elim, ℕ, Contains, List, [], ◌∷◌, Option, Some, sym, ap, subst, ◌∙◌}
 use Rattle.sw_types.specs.Name.{NameModel}
 use Rattle.sw_types.specs.Object.{ObjectModel}
 use Rattle.sw_diskfile.proofs.Lists.{Contains-first, Contains-later}
@@ -7,12 +7,11 @@ use Rattle.sw_ring.specs.Cluster.{ClusterModel}
 use Rattle.sw_view.specs.View.{Grows}
 use Rattle.sw_view.specs.declared.event.Event.{Event}
 use Rattle.sw_pass.specs.Known.{history, puts_in}
-use Rattle.sw_pass.specs.Steps.{counted, drew, fact_of, filled}
+use Rattle.sw_pass.specs.Steps.{fact_of}
 use Rattle.sw_pass.specs.declared.known.Drawn.{Drawn}
 use Rattle.sw_pass.specs.declared.known.Known.{Known}
 use Rattle.sw_pass.proofs.Views.{grows_with}
 use Rattle.sw_local.specs.Link.{Drew, LocalModel, Spent}
-use Rattle.sw_local.proofs.Looking.{few_before}
 use Rattle.sw_law_served.specs.Served.{put_drawn, view_by}
 
 module _ {T : Type 0} (cluster : ClusterModel) (shows : T → ℕ → Type 0) (before : LocalModel T) (name : NameModel) (object : Option ObjectModel) (stamp : ℕ) (drawn : LocalModel T)
@@ -21,16 +20,13 @@ module _ {T : Type 0} (cluster : ClusterModel) (shows : T → ℕ → Type 0) (b
   raised_to = draw.raised_to
 
   facts : drawn.known.drawn ≡ fact_of stamp name object raised_to ∷ raised_to.drawn
-  facts = ap (λ (known : Known). known.drawn) draw.drawn.0
+  facts = ap (λ (known : Known). known.drawn) draw.drawn
 
   same_facts : raised_to.drawn ≡ before.known.drawn
   same_facts = ap (λ (known : Known). known.drawn) draw.raises.raised_is
 
   same_histories : drawn.known.histories ≡ before.known.histories
-  same_histories = ap (λ (known : Known). known.histories) draw.drawn.0 ∙ ap (λ (known : Known). known.histories) draw.raises.raised_is
-
-  pub few_drawn : drawn.known.crowded ≡ false → before.known.crowded ≡ false
-  few_drawn few = sym (ap (λ (known : Known). known.crowded) draw.raises.raised_is) ∙ few_before drawn.known (drew stamp name object raised_to) draw.drawn few
+  same_histories = ap (λ (known : Known). known.histories) draw.drawn ∙ ap (λ (known : Known). known.histories) draw.raises.raised_is
 
   pub grown_by : Grows (view_by cluster before) (view_by cluster drawn)
   grown_by = grows_with cluster before.known.drawn drawn.known.drawn before.known.histories drawn.known.histories
@@ -44,27 +40,13 @@ module _ {T : Type 0} (cluster : ClusterModel) (shows : T → ℕ → Type 0) (b
 -- ---- no stamp was drawn
 
 module _ {T : Type 0} (shows : T → ℕ → Type 0) (before after : LocalModel T) (spent : Spent shows before after) where
-  abbrev raised_so : Known
-  raised_so = spent.raised_to
-
-  spent_facts : (after.known.drawn ≡ before.known.drawn) × (after.known.histories ≡ before.known.histories) × (after.known.crowded ≡ false → raised_so.crowded ≡ false)
+  spent_facts : (after.known.drawn ≡ before.known.drawn) × (after.known.histories ≡ before.known.histories)
   spent_facts =
       let raises = spent.raises.raised_is in
       ⊎_elim
-      (λ rest. (
-        ap (λ (known : Known). known.drawn) rest.0 ∙ ap (λ (known : Known). known.drawn) raises,
-        ap (λ (known : Known). known.histories) rest.0 ∙ ap (λ (known : Known). known.histories) raises,
-        few_before after.known (filled raised_so) rest,
-      ))
-      (λ rest. (
-        ap (λ (known : Known). known.drawn) rest.0 ∙ ap (λ (known : Known). known.drawn) raises,
-        ap (λ (known : Known). known.histories) rest.0 ∙ ap (λ (known : Known). known.histories) raises,
-        few_before after.known (filled (counted raised_so)) rest,
-      ))
+      (λ same. (ap (λ (known : Known). known.drawn) same ∙ ap (λ (known : Known). known.drawn) raises, ap (λ (known : Known). known.histories) same ∙ ap (λ (known : Known). known.histories) raises))
+      (λ same. (ap (λ (known : Known). known.drawn) same ∙ ap (λ (known : Known). known.drawn) raises, ap (λ (known : Known). known.histories) same ∙ ap (λ (known : Known). known.histories) raises))
       spent.spent
-
-  pub few_spent : after.known.crowded ≡ false → before.known.crowded ≡ false
-  few_spent few = sym (ap (λ (known : Known). known.crowded) spent.raises.raised_is) ∙ spent_facts.2 few
 
   pub grown_spent : (cluster : ClusterModel) → Grows (view_by cluster before) (view_by cluster after)
   grown_spent cluster = grows_with cluster before.known.drawn after.known.drawn before.known.histories after.known.histories

@@ -1,5 +1,5 @@
 -- The law of what answers over nodes behind locks show.
-use Rattle.std.specs.Prelude.{◌≡◌, ℕ, Bool, true, false, Result}
+use Rattle.std.specs.Prelude.{◌≡◌, ℕ, Bool, true, Result}
 use Rattle.sw_types.specs.declared.memory.NoMemory.{NoMemory as Refused}
 use Rattle.sw_ring.specs.Cluster.{ClusterModel}
 use Rattle.sw_httpwrite.specs.Answer.{AnswerModel}
@@ -8,9 +8,9 @@ use Rattle.sw_front.specs.Answering.{Answers}
 use Rattle.sw_local.specs.Link.{LocalModel}
 use Rattle.sw_law_served.specs.Served.{MayServe, ShowsSoundly, local_ways}
 
--- Each answer over a link that may serve, to nodes whose disks tell what they hold, shows so, unless its pass found that 2^63 seats were made.
+-- Each answer over a link that may serve, to nodes whose disks tell what they hold, shows so.
 abbrev pub AnswersShow : {T : Type 0} → ClusterModel → (T → ℕ → Type 0) → Type 0
-AnswersShow {T} cluster shows = (request : RequestModel) (before after : LocalModel T) (result : Result AnswerModel Refused) → MayServe cluster before → after.known.crowded ≡ false
+AnswersShow {T} cluster shows = (request : RequestModel) (before after : LocalModel T) (result : Result AnswerModel Refused) → MayServe cluster before
     → Answers (local_ways cluster true shows) cluster request before result after → ShowsSoundly cluster shows request before result after
 
 -- The numbers of the calls that are lost stay.

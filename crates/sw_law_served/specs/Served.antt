@@ -1,10 +1,10 @@
 -- What the answer to a request over nodes behind locks shows, by what the pass of the thread knows.
-use Rattle.std.specs.Prelude.{◌≡◌, ◌⊎◌, ◌↔◌, ◌<◌, ◌≤◌, ◌+◌, ℕ, Bool, true, false, IsTrue, List, [], length, Some, None, Result, Ok, Err, ⊤}
+use Rattle.std.specs.Prelude.{◌≡◌, ◌⊎◌, ◌↔◌, ◌<◌, ◌≤◌, ◌+◌, ℕ, Bool, true, false, IsTrue, List, [], ◌∷◌, length, Some, None, Result, Ok, Err, ⊤}
 use Rattle.sw_types.specs.Name.{NameModel}
 use Rattle.sw_types.specs.Object.{ObjectModel, object_of}
 use Rattle.sw_types.specs.declared.memory.NoMemory.{NoMemory as Refused}
 use Rattle.sw_ring.specs.Cluster.{ClusterModel}
-use Rattle.sw_message.specs.Transcript.{IsRun, Step}
+use Rattle.sw_message.specs.Transcript.{Closed, Gave, IsRun, Step}
 use Rattle.sw_httpwrite.specs.Answer.{AnswerModel}
 use Rattle.sw_request.specs.Body.{RequestModel}
 use Rattle.sw_request.specs.Fields.{AsksToClose}
@@ -38,8 +38,8 @@ local_ways cluster tells shows = record {
   calls = Calls cluster tells;
   losses = λ it. it.losses;
   refusals = λ it. it.refused;
-  learnt = λ it. told_by cluster tells it.known.crowded it.known;
-  may_be_silent = λ it. it.known.crowded ≡ true;
+  learnt = λ it. told_by cluster tells it.known;
+  may_be_silent = λ it. ⊥;
 }
 
 -- what the pass of a link knows
@@ -49,11 +49,19 @@ view_by cluster link = view_of cluster link.known
 abbrev pub get_of : ClusterModel → NameModel → gets.Begun
 get_of cluster name = record { cluster = cluster; name = name }
 
+-- each message that was closed was answered
+abbrev pub AreAnswered : List Step → Type 0
+AreAnswered [] = ⊤
+AreAnswered (Gave sent ∷ past) = AreAnswered past
+AreAnswered (Closed sent (Some reply) ∷ past) = AreAnswered past
+AreAnswered (Closed sent None ∷ past) = ⊥
+
 module _ {T : Type 0} (cluster : ClusterModel) where
   -- The messages of an operation were calls over the link, one behind the other, and none was lost: each let the view grow, and each reply but
   -- want of memory is the latest event of its device then. The pass drew nothing, and its clock is what it was.
   pub record WentBy (before : LocalModel T) (past : List Step) (after : LocalModel T) : Type 0 where
     pub calls : AreCallsOver cluster (view_by cluster before) past (view_by cluster after)
+    pub answered : AreAnswered past
     pub grown : HasGrown before.known after.known
 
   -- ---- gets
@@ -128,12 +136,11 @@ module _ {T : Type 0} (cluster : ClusterModel) (shows : T → ℕ → Type 0) wh
 
   -- The answer to a request shows this, the view has grown, and it is sound.
   pub record ShowsSoundly (request : RequestModel) (before : LocalModel T) (result : Result AnswerModel Refused) (after : LocalModel T) : Type 0 where
-    pub few : before.known.crowded ≡ false
     pub grows : Grows (view_by cluster before) (view_by cluster after)
     pub sound : IsSoundView cluster (view_by cluster after)
     pub shown : AnswerShows request before result after
 
--- a link that loses no call, and whose pass knows soundly, unless it found that 2^63 seats were made
+-- a link that loses no call, and whose pass knows soundly
 pub record MayServe {T : Type 0} (cluster : ClusterModel) (link : LocalModel T) : Type 0 where
   pub none_lost : link.lost ≡ []
-  pub sound : link.known.crowded ≡ false → IsSoundView cluster (view_by cluster link)
+  pub sound : IsSoundView cluster (view_by cluster link)

@@ -1,5 +1,5 @@
 -- A draw of a link over nodes behind locks: it has learnt the put or the delete, and what its pass knows is sound still.
-use Rattle.std.proofs.Common.{◌≡◌, ⊎_elim, ℕ, ◌<◌, ◌≤◌, Bool, true, false, Contains, List, [], ◌∷◌, Option, Some, None, refl, sym, ap, subst, ◌∙◌, arith}
+use Rattle.std.proofs.Common.{◌≡◌, ⊎_elim, ℕ, ◌<◌, ◌≤◌, Bool, true, false, Contains, List, [], ◌∷◌, Option, Some, None, sym, ap, subst, ◌∙◌, arith}
 use Rattle.std.specs.Prelude.{IfSome}
 use Rattle.sw_types.specs.Name.{NameModel, name_fault}
 use Rattle.sw_types.specs.Object.{IsObject, ObjectModel}
@@ -14,15 +14,15 @@ use Rattle.sw_view.specs.declared.event.Event.{Event}
 use Rattle.sw_law_view.proofs.Stays.{delete_sound, put_sound}
 use Rattle.sw_pass.specs.Known.{AllAgree, deletes_in, history, puts_in, view_of, view_with}
 use Rattle.sw_pass.specs.Steps as steps
-use Rattle.sw_pass.specs.Steps.{RestOf, counted, drew, filled, marked, raised, with_crowd}
+use Rattle.sw_pass.specs.Steps.{drew, marked, raised}
 use Rattle.sw_pass.specs.declared.known.Drawn.{Drawn}
 use Rattle.sw_pass.specs.declared.known.Known.{Known}
 use Rattle.sw_pass.proofs.Facts.{delete_out, drawn_delete, drawn_put, put_out}
 use Rattle.sw_pass.proofs.Histories.{continues_itself}
 use Rattle.sw_pass.proofs.Views.{grows_with}
 use Rattle.sw_local.specs.Link.{Drew, KnowsSoundly, LocalModel, Spent, learnt_of, told_by}
-use Rattle.sw_local.proofs.Looking.{HasLooked, drew_so, few_before, has_drawn, has_spent, is_fresh, spent_so}
-use Rattle.sw_local.proofs.Telling.{no_less, still_told, told_all, told_none}
+use Rattle.sw_local.proofs.Looking.{HasLooked, drew_so, has_drawn, has_spent, is_fresh, spent_so}
+use Rattle.sw_local.proofs.Telling.{no_less, still_told, told_all}
 
 -- ---- a fact more
 
@@ -77,28 +77,19 @@ learns_so cluster known sound agree name None stamp has = (no_less cluster known
 learns_so cluster known sound agree name (Some object) stamp has = (no_less cluster known sound agree).book (record { stamp = stamp; name = name; object = object }) has
 
 module _ (cluster : ClusterModel) (tells : Bool) (mark time : ℕ) (before : Known) (was : KnowsSoundly cluster before) (name : NameModel) (named : name_fault name ≡ None)
-    (object : Option ObjectModel) (is_object : IfSome object IsObject) (stamp : ℕ) (bound : stamp ≤ greatest_stamp) (crowded : Bool) (few : crowded ≡ false → before.crowded ≡ false)
-    (fresh : crowded ≡ false → steps.IsFresh stamp (raised time (marked mark before))) where
+    (object : Option ObjectModel) (is_object : IfSome object IsObject) (stamp : ℕ) (bound : stamp ≤ greatest_stamp) (fresh : steps.IsFresh stamp (raised time (marked mark before))) where
   abbrev now : Known
-  now = with_crowd crowded (drew stamp name object (raised time (marked mark before)))
+  now = drew stamp name object (raised time (marked mark before))
 
   knows_now : KnowsSoundly cluster now
-  knows_now = λ is. (
-    sound_with cluster before stamp (fresh is).above name mark (was (few is)).0 bound named object is_object,
-    agree_with cluster before stamp (fresh is).above name mark (was (few is)).1 object,
-  )
+  knows_now = (sound_with cluster before stamp fresh.above name mark was.0 bound named object is_object, agree_with cluster before stamp fresh.above name mark was.1 object)
 
-  tells_now : StillTells (crowded ≡ true) (told_by cluster tells before.crowded before) (told_by cluster tells crowded now)
-  tells_now = still_told cluster before now was knows_now tells (λ is. (few is, grows_by cluster before stamp (fresh is).above name mark object))
+  tells_now : StillTells ⊥ (told_by cluster tells before) (told_by cluster tells now)
+  tells_now = still_told cluster before now was knows_now tells (grows_by cluster before stamp fresh.above name mark object)
 
-  learns_by : (b : Bool) → crowded ≡ b → (t : Bool) → Draws (told_by cluster t crowded now) name object stamp
-  learns_by b is false = tt
-  learns_by true is true = rw (told_none cluster now true is) tt
-  learns_by false is true = rw (told_all cluster now knows_now is)
-      (learns_so cluster now (knows_now is).0 (knows_now is).1 name object stamp (has_own cluster before stamp (fresh is).above name mark object))
-
-  learns_now : Draws (told_by cluster tells crowded now) name object stamp
-  learns_now = learns_by crowded refl tells
+  learns_by : (t : Bool) → Draws (told_by cluster t now) name object stamp
+  learns_by false = tt
+  learns_by true = rw (told_all cluster now knows_now) (learns_so cluster now knows_now.0 knows_now.1 name object stamp (has_own cluster before stamp fresh.above name mark object))
 
 -- a draw of a link whose pass looked before, and what it was asked for
 pub record HasDrawn {T : Type 0} (cluster : ClusterModel) (shows : T → ℕ → Type 0) (before : LocalModel T) (name : NameModel) (object : Option ObjectModel) (stamp : ℕ) (after : Known) : Type 0 where
@@ -106,8 +97,8 @@ pub record HasDrawn {T : Type 0} (cluster : ClusterModel) (shows : T → ℕ →
   pub found : Known
   pub time : ℕ
   pub look : HasLooked shows before mark found time
-  pub drawn : RestOf after (drew stamp name object (raised time found))
-  pub fresh : after.crowded ≡ false → steps.IsFresh stamp (raised time found)
+  pub drawn : after ≡ drew stamp name object (raised time found)
+  pub fresh : steps.IsFresh stamp (raised time found)
   pub knows : KnowsSoundly cluster before.known
   pub named : name_fault name ≡ None
   pub is_object : IfSome object IsObject
@@ -115,31 +106,25 @@ pub record HasDrawn {T : Type 0} (cluster : ClusterModel) (shows : T → ℕ →
 
 module _ {T : Type 0} {cluster : ClusterModel} {shows : T → ℕ → Type 0} {before : LocalModel T} {name : NameModel} {object : Option ObjectModel} {stamp : ℕ} {after : Known}
     (is : HasDrawn cluster shows before name object stamp after) where
-  abbrev drawn_so : Known
-  drawn_so = drew stamp name object (raised is.time (marked is.mark before.known))
+  drawn_so : after ≡ drew stamp name object (raised is.time (marked is.mark before.known))
+  drawn_so = has_drawn is.look after stamp name object is.drawn is.fresh
 
-  rest_so : RestOf after drawn_so
-  rest_so = has_drawn is.look after stamp name object is.drawn
-
-  few_so : after.crowded ≡ false → before.known.crowded ≡ false
-  few_so = few_before after drawn_so rest_so
-
-  fresh_so : after.crowded ≡ false → steps.IsFresh stamp (raised is.time (marked is.mark before.known))
+  fresh_so : steps.IsFresh stamp (raised is.time (marked is.mark before.known))
   fresh_so = is_fresh is.look after stamp name object is.drawn is.fresh
 
   pub draws : Drew shows before name object stamp (record before { known = after })
   draws = drew_so is.look after stamp name object is.drawn is.fresh
 
   pub knows_drawn : KnowsSoundly cluster after
-  knows_drawn = subst (KnowsSoundly cluster) (sym rest_so.0) (knows_now cluster true is.mark is.time before.known is.knows name is.named object is.is_object stamp is.bound after.crowded few_so fresh_so)
+  knows_drawn = subst (KnowsSoundly cluster) (sym drawn_so) (knows_now cluster true is.mark is.time before.known is.knows name is.named object is.is_object stamp is.bound fresh_so)
 
-  pub tells_drawn : (tells : Bool) → StillTells (after.crowded ≡ true) (told_by cluster tells before.known.crowded before.known) (told_by cluster tells after.crowded after)
-  tells_drawn tells = subst (λ (known : Known). StillTells (known.crowded ≡ true) (told_by cluster tells before.known.crowded before.known) (told_by cluster tells known.crowded known)) (sym rest_so.0)
-      (tells_now cluster tells is.mark is.time before.known is.knows name is.named object is.is_object stamp is.bound after.crowded few_so fresh_so)
+  pub tells_drawn : (tells : Bool) → StillTells ⊥ (told_by cluster tells before.known) (told_by cluster tells after)
+  tells_drawn tells = subst (λ (known : Known). StillTells ⊥ (told_by cluster tells before.known) (told_by cluster tells known)) (sym drawn_so)
+      (tells_now cluster tells is.mark is.time before.known is.knows name is.named object is.is_object stamp is.bound fresh_so)
 
-  pub learns_drawn : (tells : Bool) → Draws (told_by cluster tells after.crowded after) name object stamp
-  learns_drawn tells = subst (λ (known : Known). Draws (told_by cluster tells known.crowded known) name object stamp) (sym rest_so.0)
-      (learns_now cluster tells is.mark is.time before.known is.knows name is.named object is.is_object stamp is.bound after.crowded few_so fresh_so)
+  pub learns_drawn : (tells : Bool) → Draws (told_by cluster tells after) name object stamp
+  learns_drawn tells = subst (λ (known : Known). Draws (told_by cluster tells known) name object stamp) (sym drawn_so)
+      (learns_by cluster tells is.mark is.time before.known is.knows name is.named object is.is_object stamp is.bound fresh_so tells)
 
 -- ---- nothing was drawn
 
@@ -153,25 +138,20 @@ pub record HasSpent {T : Type 0} (cluster : ClusterModel) (shows : T → ℕ →
   pub knows : KnowsSoundly cluster before.known
 
 module _ {T : Type 0} {cluster : ClusterModel} {shows : T → ℕ → Type 0} {before : LocalModel T} {after : Known} (is : HasSpent cluster shows before after) where
-  abbrev raised_so : Known
-  raised_so = raised is.time (marked is.mark before.known)
-
-  same_facts : (after.drawn ≡ before.known.drawn) × (after.histories ≡ before.known.histories) × (after.crowded ≡ false → before.known.crowded ≡ false)
+  same_facts : (after.drawn ≡ before.known.drawn) × (after.histories ≡ before.known.histories)
   same_facts = ⊎_elim
-      (λ rest. (ap (λ (known : Known). known.drawn) rest.0, ap (λ (known : Known). known.histories) rest.0, few_before after (filled raised_so) rest))
-      (λ rest. (ap (λ (known : Known). known.drawn) rest.0, ap (λ (known : Known). known.histories) rest.0, few_before after (filled (counted raised_so)) rest))
+      (λ same. (ap (λ (known : Known). known.drawn) same, ap (λ (known : Known). known.histories) same))
+      (λ same. (ap (λ (known : Known). known.drawn) same, ap (λ (known : Known). known.histories) same))
       (has_spent is.look after is.refused)
 
   pub spends : Spent shows before (record before { known = after; refused = one_more before.refused })
   spends = spent_so is.look after is.refused
 
   pub knows_spent : KnowsSoundly cluster after
-  knows_spent = λ few. rw (same_facts.0, same_facts.1) (is.knows (same_facts.2 few))
+  knows_spent = rw (same_facts.0, same_facts.1) is.knows
 
-  pub tells_spent : (tells : Bool) → StillTells (after.crowded ≡ true) (told_by cluster tells before.known.crowded before.known) (told_by cluster tells after.crowded after)
-  tells_spent tells = still_told cluster before.known after is.knows knows_spent tells (λ few. (
-    same_facts.2 few,
-    grows_with cluster before.known.drawn after.drawn before.known.histories after.histories
-        (λ fact has. subst (λ (facts : List Drawn). Contains facts fact) (sym same_facts.0) has)
-        (λ slot. ([], ap (λ (all : List (List Event)). history all slot) same_facts.1)),
-  ))
+  pub tells_spent : (tells : Bool) → StillTells ⊥ (told_by cluster tells before.known) (told_by cluster tells after)
+  tells_spent tells = still_told cluster before.known after is.knows knows_spent tells
+      (grows_with cluster before.known.drawn after.drawn before.known.histories after.histories
+      (λ fact has. subst (λ (facts : List Drawn). Contains facts fact) (sym same_facts.0) has)
+      (λ slot. ([], ap (λ (all : List (List Event)). history all slot) same_facts.1)))

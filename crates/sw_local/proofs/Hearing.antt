@@ -22,14 +22,14 @@ use Rattle.sw_pass.proofs.Views.{grows_with}
 use Rattle.sw_cell.specs.Calling.{IsCalled, MayCall, replied_events}
 use Rattle.sw_cell.specs.Learning.{HasGrown}
 use Rattle.sw_local.specs.Link.{KnowsSoundly, learnt_of, told_by}
-use Rattle.sw_local.proofs.Telling.{no_less, no_more, still_told, told_all, told_none}
+use Rattle.sw_local.proofs.Telling.{no_less, no_more, still_told, told_all}
 
 -- what is warranted by what the link tells is so by what the pass knows
 pub may_call : (cluster : ClusterModel) (tells : Bool) (msg : Msg) (known : Known) → KnowsSoundly cluster known
-    → ((of : ClusterModel) (learnt : Learnt) → Some cluster ≡ Some of → told_by cluster tells known.crowded known ≡ Some learnt → IsWarranted of learnt msg) → MayCall cluster tells msg known
-may_call cluster tells msg known knows warranted = λ told few.
+    → ((of : ClusterModel) (learnt : Learnt) → Some cluster ≡ Some of → told_by cluster tells known ≡ Some learnt → IsWarranted of learnt msg) → MayCall cluster tells msg known
+may_call cluster tells msg known knows warranted = λ told.
     warranted_kept cluster (learnt_of cluster known) (known_to cluster (view_of cluster known)) (no_more cluster known) msg
-    (warranted cluster (learnt_of cluster known) refl (subst (λ (b : Bool). told_by cluster b known.crowded known ≡ Some (learnt_of cluster known)) (sym told) (told_all cluster known knows few)))
+    (warranted cluster (learnt_of cluster known) refl (subst (λ (b : Bool). told_by cluster b known ≡ Some (learnt_of cluster known)) (sym told) (told_all cluster known knows)))
 
 -- ---- the reply
 
@@ -61,22 +61,19 @@ pub learnt_grows : (cluster : ClusterModel) (before after : Known) → HasGrown 
 learnt_grows cluster before after grown = grows_with cluster before.drawn after.drawn before.histories after.histories grown.covers.drawn grown.covers.histories
 
 module _ (cluster : ClusterModel) (tells : Bool) (device : ℕ) (msg : Msg) (given : Reply) (before after : Known)
-    (called : after.crowded ≡ false → IsCalled cluster tells (slot_of cluster device) msg given before after) where
+    (called : IsCalled cluster tells (slot_of cluster device) msg given before after) where
   pub knows_after : KnowsSoundly cluster after
-  knows_after = λ few. let learnt = (called few).learnt in (learnt.sound, learnt.agree)
+  knows_after = (called.learnt.sound, called.learnt.agree)
 
-  pub tells_after : KnowsSoundly cluster before → StillTells (after.crowded ≡ true) (told_by cluster tells before.crowded before) (told_by cluster tells after.crowded after)
-  tells_after was = still_told cluster before after was knows_after tells (λ few. let grown = (called few).learnt.grown in (grown.few, learnt_grows cluster before after grown))
+  pub tells_after : KnowsSoundly cluster before → StillTells ⊥ (told_by cluster tells before) (told_by cluster tells after)
+  tells_after was = still_told cluster before after was knows_after tells (learnt_grows cluster before after called.learnt.grown)
 
-  hears_by : (b : Bool) → tells ≡ b → (crowded : Bool) → after.crowded ≡ crowded → IsMember cluster device → Hears (Some cluster) (told_by cluster b after.crowded after) device msg (Some given)
-  hears_by false silent crowded is member = tt
-  hears_by true told true is member = rw (told_none cluster after true is) tt
-  hears_by true told false is member =
-      let one = called is in
-      let replied = one.replied in
-      rw (told_all cluster after knows_after is)
-      (heard cluster after one.learnt.sound one.learnt.agree device member msg given replied.middle
-      (subst (λ (b : Bool). history after.histories (slot_of cluster device) ≡ replied_events b msg given replied.middle) told replied.latest))
+  hears_by : (b : Bool) → tells ≡ b → IsMember cluster device → Hears (Some cluster) (told_by cluster b after) device msg (Some given)
+  hears_by false silent member = tt
+  hears_by true told member =
+      rw (told_all cluster after knows_after)
+      (heard cluster after called.learnt.sound called.learnt.agree device member msg given called.replied.middle
+      (subst (λ (b : Bool). history after.histories (slot_of cluster device) ≡ replied_events b msg given called.replied.middle) told called.replied.latest))
 
-  pub hears_after : IsMember cluster device → Hears (Some cluster) (told_by cluster tells after.crowded after) device msg (Some given)
-  hears_after member = hears_by tells refl after.crowded refl member
+  pub hears_after : IsMember cluster device → Hears (Some cluster) (told_by cluster tells after) device msg (Some given)
+  hears_after member = hears_by tells refl member

@@ -2,5 +2,4 @@ pub mod Drawing
 pub mod Firsts
 pub mod Hearing
 pub mod Looking
-pub mod Starting
 pub mod Telling

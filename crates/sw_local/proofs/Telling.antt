@@ -1,5 +1,5 @@
 -- What a link over nodes behind locks tells: each put and each delete that its pass knows, once, as long as what it knows is sound.
-use Rattle.std.proofs.Common.{◌≡◌, ◌≢◌, ℕ, Bool, true, false, Contains, List, [], Option, Some, None, append-nil, refl, sym, ap, subst, ◌∙◌, arith}
+use Rattle.std.proofs.Common.{◌≡◌, ◌≢◌, ℕ, Bool, true, false, Contains, List, [], Some, append-nil, refl, sym, ap, subst, ◌∙◌, arith}
 use Rattle.std.specs.List.{AllPairs}
 use Rattle.sw_diskfile.proofs.Lists.{Contains-none, mapped}
 use Rattle.sw_ring.specs.Cluster.{ClusterModel}
@@ -76,30 +76,16 @@ module _ (cluster : ClusterModel) (known : Known) where
 -- ---- what is told
 
 module _ (cluster : ClusterModel) (known : Known) where
-  pub told_none : (tells : Bool) → known.crowded ≡ true → told_by cluster tells known.crowded known ≡ None
-  told_none true crowded = rw crowded refl
-  told_none false crowded = refl
-
-  pub told_all : KnowsSoundly cluster known → known.crowded ≡ false → told_by cluster true known.crowded known ≡ Some (learnt_of cluster known)
-  told_all knows few = rw few (is_told cluster known (knows few).0 (knows few).1)
-
-to_silence : (MayBe : Type 0) → MayBe → (first : Option Learnt) → StillTells MayBe first None
-to_silence MayBe is None = refl
-to_silence MayBe is (Some first) = is
+  pub told_all : KnowsSoundly cluster known → told_by cluster true known ≡ Some (learnt_of cluster known)
+  told_all knows = is_told cluster known knows.0 knows.1
 
 module _ (cluster : ClusterModel) (before after : Known) (was : KnowsSoundly cluster before) (is : KnowsSoundly cluster after) where
   -- what it told it tells still, where its view has grown
-  told_more : (few : before.crowded ≡ false) → (still : after.crowded ≡ false) → Grows (view_of cluster before) (view_of cluster after) → Keeps (learnt_of cluster before) (learnt_of cluster after)
-  told_more few still grows =
+  told_more : Grows (view_of cluster before) (view_of cluster after) → Keeps (learnt_of cluster before) (learnt_of cluster after)
+  told_more grows =
       keeps_both (learnt_of cluster before) (all cluster before) (learnt_of cluster after) (no_more cluster before)
-      (keeps_both (all cluster before) (all cluster after) (learnt_of cluster after) (keeps (view_of cluster before) (view_of cluster after) grows cluster) (no_less cluster after (is still).0 (is still).1))
+      (keeps_both (all cluster before) (all cluster after) (learnt_of cluster after) (keeps (view_of cluster before) (view_of cluster after) grows cluster) (no_less cluster after is.0 is.1))
 
-  -- unless it found that 2^63 seats were made
-  pub still_told : (tells : Bool) → (after.crowded ≡ false → (before.crowded ≡ false) × Grows (view_of cluster before) (view_of cluster after))
-      → StillTells (after.crowded ≡ true) (told_by cluster tells before.crowded before) (told_by cluster tells after.crowded after)
+  pub still_told : (tells : Bool) → Grows (view_of cluster before) (view_of cluster after) → StillTells ⊥ (told_by cluster tells before) (told_by cluster tells after)
   still_told false grown = refl
-  still_told true grown = by_case after.crowded refl
-    where
-      by_case : (b : Bool) → after.crowded ≡ b → StillTells (after.crowded ≡ true) (told_by cluster true before.crowded before) (told_by cluster true after.crowded after)
-      by_case true crowded = rw (told_none cluster after true crowded) (to_silence (after.crowded ≡ true) crowded (told_by cluster true before.crowded before))
-      by_case false few = rw (told_all cluster before was (grown few).0, told_all cluster after is few) (told_more (grown few).0 few (grown few).1)
+  still_told true grown = rw (told_all cluster before was, told_all cluster after is) (told_more grown)

@@ -14,7 +14,7 @@ use Rattle.sw_message.specs.declared.reply.Reply.TheVariants.{NoMemory}
 use Rattle.sw_view.specs.View.{IsSoundView, known_to}
 use Rattle.sw_pass.specs.Known.{AllAgree, history, slot_of, view_of}
 use Rattle.sw_pass.specs.Losses.{LossesBelow}
-use Rattle.sw_pass.specs.Steps.{IsFresh, RestOf, counted, drew, filled, marked, raised}
+use Rattle.sw_pass.specs.Steps.{IsFresh, counted, drew, filled, marked, raised}
 use Rattle.sw_pass.specs.declared.known.Known.{Known}
 use Rattle.sw_cell.specs.Calling.{IsCalled}
 
@@ -29,9 +29,9 @@ pub record LocalModel (T : Type 0) : Type 0 where
   pub refused : ℕ
   pub wants : Bool
 
--- unless it found that 2^63 seats were made, what a seat knows is sound
+-- what a seat knows is sound
 abbrev pub KnowsSoundly : ClusterModel → Known → Type 0
-KnowsSoundly cluster known = known.crowded ≡ false → IsSoundView cluster (view_of cluster known) × AllAgree known.drawn known.drawn
+KnowsSoundly cluster known = IsSoundView cluster (view_of cluster known) × AllAgree known.drawn known.drawn
 
 -- one of each stamp, the first in the list
 abbrev pub firsts : {T : Type 0} → (stamp_of : T → ℕ) → List T → List T
@@ -44,12 +44,11 @@ learnt_of cluster known =
     let all = known_to cluster (view_of cluster known) in
     record { book = firsts (λ (booked : Booked). booked.stamp) all.book; marks = firsts (λ (marked : Marked). marked.stamp) all.marks; heard = all.heard }
 
--- That is told where the disks tell what they hold, unless the seat found that 2^63 seats were made. It is put to the test whether it is
--- sound, as a link tells nothing else; what a link knows is.
-abbrev pub told_by : ClusterModel → (tells crowded : Bool) → Known → Option Learnt
-told_by cluster false crowded known = None
-told_by cluster true true known = None
-told_by cluster true false known = told_soundly cluster.policy (learnt_of cluster known)
+-- That is told where the disks tell what they hold. It is put to the test whether it is sound, as a link tells nothing else; what a link
+-- knows is.
+abbrev pub told_by : ClusterModel → (tells : Bool) → Known → Option Learnt
+told_by cluster false known = None
+told_by cluster true known = told_soundly cluster.policy (learnt_of cluster known)
 
 -- ---- calls
 
@@ -62,7 +61,7 @@ wants_memory other = false
 pub record WasCalled {T : Type 0} (cluster : ClusterModel) (tells : Bool) (before : LocalModel T) (device : ℕ) (msg : Msg) (reply : Reply) (after : LocalModel T) : Type 0 where
   pub member : IsMember cluster device
   pub kept : Contains before.lost (one_more before.calls) → ⊥
-  pub called : after.known.crowded ≡ false → IsCalled cluster tells (slot_of cluster device) msg reply before.known after.known
+  pub called : IsCalled cluster tells (slot_of cluster device) msg reply before.known after.known
   pub after_is : after ≡ record before { known = after.known; calls = one_more before.calls; wants = before.wants || wants_memory reply }
 
 -- The call is among them: the pass knows no more than before.
@@ -78,27 +77,27 @@ Calls cluster tells before device msg None after = WasNotCalled cluster before d
 -- ---- draws
 
 -- A seat looked how many losses there were, and raised to a time that the clock showed.
-pub record HasRaised {T : Type 0} (shows : T → ℕ → Type 0) (before : LocalModel T) (after : Known) (raised_to : Known) : Type 0 where
+pub record HasRaised {T : Type 0} (shows : T → ℕ → Type 0) (before : LocalModel T) (raised_to : Known) : Type 0 where
   pub time : ℕ
   pub shown : shows before.clock time
   pub mark : ℕ
-  pub rises : after.crowded ≡ false → before.known.mark ≤ mark
-  pub above : after.crowded ≡ false → (slot : ℕ) → LossesBelow mark (history before.known.histories slot)
+  pub rises : before.known.mark ≤ mark
+  pub above : (slot : ℕ) → LossesBelow mark (history before.known.histories slot)
   pub raised_is : raised_to ≡ raised time (marked mark before.known)
 
 -- Then it drew a stamp for this name and object, or for a delete of this name, no less than the time and above all that it knew.
 pub record Drew {T : Type 0} (shows : T → ℕ → Type 0) (before : LocalModel T) (name : NameModel) (object : Option ObjectModel) (stamp : ℕ) (after : LocalModel T) : Type 0 where
   pub raised_to : Known
-  pub raises : HasRaised shows before after.known raised_to
-  pub drawn : RestOf after.known (drew stamp name object raised_to)
-  pub fresh : after.known.crowded ≡ false → IsFresh stamp raised_to
+  pub raises : HasRaised shows before raised_to
+  pub drawn : after.known ≡ drew stamp name object raised_to
+  pub fresh : IsFresh stamp raised_to
   pub after_is : after ≡ record before { known = after.known }
 
 -- Or it found that the stamps are spent, at the raise or at the draw.
 pub record Spent {T : Type 0} (shows : T → ℕ → Type 0) (before after : LocalModel T) : Type 0 where
   pub raised_to : Known
-  pub raises : HasRaised shows before after.known raised_to
-  pub spent : RestOf after.known (filled raised_to) ⊎ RestOf after.known (filled (counted raised_to))
+  pub raises : HasRaised shows before raised_to
+  pub spent : (after.known ≡ filled raised_to) ⊎ (after.known ≡ filled (counted raised_to))
   pub after_is : after ≡ record before { known = after.known; refused = one_more before.refused }
 
 -- what the pass knows is sound behind it

@@ -6,7 +6,6 @@ use Rattle.sw_message.proofs.Soundly.{told-sound}
 use Rattle.sw_pass.specs.declared.known.Known.{Known}
 use Rattle.sw_local.specs.Link.{learnt_of, told_by}
 
-pub told_by_test : (cluster : ClusterModel) (tells crowded : Bool) (known : Known) → TellsSoundly (Some cluster) (told_by cluster tells crowded known)
-told_by_test cluster false crowded known = tt
-told_by_test cluster true true known = tt
-told_by_test cluster true false known = told-sound cluster (learnt_of cluster known)
+pub told_by_test : (cluster : ClusterModel) (tells : Bool) (known : Known) → TellsSoundly (Some cluster) (told_by cluster tells known)
+told_by_test cluster false known = tt
+told_by_test cluster true known = told-sound cluster (learnt_of cluster known)

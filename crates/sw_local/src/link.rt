@@ -17,7 +17,7 @@ use sw_types::{Name, Object, Stamp};
 
 /// The nodes of a cluster, each behind a lock, as the link of one thread, which has a pass of its own. A message is handled by its device's
 /// node at once, unless the call is one of those that are lost. Stamps are drawn from the stamp table by a clock. Where the disks tell what they
-/// hold, it tells all that the pass knows, unless that found that 2^63 seats were made.
+/// hold, it tells all that the pass knows.
 #[derive(Drop)]
 pub struct LocalLink<'a, D: Disk + Drop, C: OfCluster, J: Site, T: Clock, G: Gate, R: Wait> {
     rt: &'a R,
@@ -69,13 +69,12 @@ impl<'a, D: Disk + Drop, C: OfCluster, J: Site, T: Clock, G: Gate, R: Wait> Loca
         lost: Vec<u64>,
     ) -> Self
         requires table { pass.table ≡ J.table }
-        ensures learnt { result.known.crowded ≡ false → HasLearnt C.cluster pass.known result.known }
-        ensures tells { D.tells ≡ true → result.known.crowded ≡ false → told_by C.cluster D.tells result.known.crowded result.known ≡ Some (learnt_of C.cluster result.known) }
+        ensures learnt { HasLearnt C.cluster pass.known result.known }
+        ensures tells { D.tells ≡ true → told_by C.cluster D.tells result.known ≡ Some (learnt_of C.cluster result.known) }
         ensures rest { result ≡ record { known = result.known; clock = clock.now; lost = lost.items; calls = 0; losses = 0; refused = 0; wants = false } }
     {
         let mut pass = pass;
-        let note = pass.note(cells.table());
-        pass.join(cells.table(), note);
+        pass.learn(cells.table());
         LocalLink {
             rt,
             alloc,
@@ -113,15 +112,15 @@ impl<'a, D: Disk + Drop, C: OfCluster, J: Site, T: Clock, G: Gate, R: Wait> Link
     for LocalLink<'a, D, C, J, T, G, R> {
     ghost cluster = { λ it. Some C.cluster };
 
-    ghost learnt = { λ it. told_by C.cluster D.tells it.known.crowded it.known };
+    ghost learnt = { λ it. told_by C.cluster D.tells it.known };
 
-    ghost may_be_silent = { λ it. it.known.crowded ≡ true };
+    ghost may_be_silent = { λ it. ⊥ };
 
     ghost calls = { Calls C.cluster D.tells };
 
     ghost losses = { λ it. it.losses };
 
-    ghost sound = { λ it. told_by_test C.cluster D.tells it.known.crowded it.known };
+    ghost sound = { λ it. told_by_test C.cluster D.tells it.known };
 
     fn call(&mut self, device: u16, msg: &Msg) -> Option<Reply> {
         self.calls = self.calls.saturating_add(1);

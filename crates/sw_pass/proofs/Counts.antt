@@ -1,12 +1,11 @@
 -- Counts over all views, after one view changed or came.
-use Rattle.std.proofs.Common.{◌≡◌, ℕ, zero, suc, ◌+◌, ◌≤◌, Bool, true, false, List, [], ◌∷◌, ◌++◌, length, set, refl, sym, ap, arith}
+use Rattle.std.proofs.Common.{◌≡◌, ◌≢◌, ℕ, zero, suc, ◌+◌, ◌≤◌, ◌<◌, List, [], ◌∷◌, ◌++◌, set, refl, sym, ap, ◌∙◌, arith}
 use mathlib.Core.Option.{some, some-injective, some-ne-none}
+use mathlib.Core.Logic.{dite}
+use native.Mathlib.Decide.{ℕ_discrete}
 use lib.ListN.{get_elem?}
 use Rattle.sw_pass.specs.declared.known.Known.{Known}
-use Rattle.sw_pass.specs.declared.known.Kind.{Kind}
-use Rattle.sw_pass.specs.declared.known.Kind.TheVariants as kind
-use Rattle.sw_pass.specs.Rule.{total, greatest, one_if, is_spent}
-use Rattle.sw_pass.specs.Steps.{is_node}
+use Rattle.sw_pass.specs.Rule.{claims, greatest, total}
 
 pub total_set : (f : Known → ℕ) (vs : List Known) (i : ℕ) (v w : Known) → get_elem? vs i ≡ some v → total f (set vs i w) + f v ≡ total f vs + f w
 total_set f [] i v w e = absurd (some-ne-none v (sym e))
@@ -26,29 +25,41 @@ pub total_le : (f g : Known → ℕ) (vs : List Known) → ((i : ℕ) (v : Known
 total_le f g [] le = omega arith
 total_le f g (x ∷ xs) le = let a = le zero x refl in let b = total_le f g xs (λ i. le (suc i)) in omega arith
 
-one_if_le : (b : Bool) → one_if b ≤ 1
-one_if_le true = omega arith
-one_if_le false = omega arith
+-- ---- claims
 
-pub total_flags : (f : Known → Bool) (vs : List Known) → total (λ v. one_if (f v)) vs ≤ length vs
-total_flags f [] = omega arith
-total_flags f (x ∷ xs) = let h = total_flags f xs in let o = one_if_le (f x) in omega arith
+-- none is
+pub claims_same : (word word' : ℕ → ℕ) (slots : ℕ) → ((y : ℕ) → y < slots → word' y ≡ word y) → claims word' slots ≡ claims word slots
+claims_same word word' zero same = refl
+claims_same word word' (suc slots) same =
+    let a = same slots (omega arith) in
+    let b = claims_same word word' slots (λ y less. same y (omega (arith, less))) in
+    omega arith
 
-spent_le : (k : Kind) → is_spent k ≤ 1
-spent_le kind.Pass = omega arith
-spent_le kind.Note = omega arith
-spent_le (kind.Node x) = omega arith
-spent_le kind.Spent = omega arith
+-- a slot is claimed
+pub claims_more : (word word' : ℕ → ℕ) (slots x : ℕ) → x < slots → word x ≡ 0 → word' x ≡ 1 → ((y : ℕ) → y ≢ x → word' y ≡ word y) → claims word' slots ≡ claims word slots + 1
+claims_more word word' zero x inside was is others = absurd (omega (arith, inside))
+claims_more word word' (suc slots) x inside was is others =
+    dite (ℕ_discrete slots x)
+    (λ here.
+    let w : word slots ≡ 0 = ap word here ∙ was in
+    let w' : word' slots ≡ 1 = ap word' here ∙ is in
+    let rest : claims word' slots ≡ claims word slots = claims_same word word' slots (λ y less. others y (λ e. omega (arith, e, here, less))) in
+    omega arith)
+    (λ apart.
+    let h = claims_more word word' slots x (omega (arith, apart, inside)) was is others in
+    let w : word' slots ≡ word slots = others slots apart in
+    omega arith)
 
-pub total_spent : (vs : List Known) → total (λ v. is_spent v.kind) vs ≤ length vs
-total_spent [] = omega arith
-total_spent (x ∷ xs) = let h = total_spent xs in let o = spent_le x.kind in omega arith
+pub claims_le : (word : ℕ → ℕ) (slots : ℕ) → ((y : ℕ) → y < slots → word y ≤ 1) → claims word slots ≤ slots
+claims_le word zero few = omega arith
+claims_le word (suc slots) few =
+    let a = few slots (omega arith) in
+    let b = claims_le word slots (λ y less. few y (omega (arith, less))) in
+    omega arith
 
-pub node_le : (k : Kind) → is_node k ≤ 1
-node_le kind.Pass = omega arith
-node_le kind.Note = omega arith
-node_le (kind.Node x) = omega arith
-node_le kind.Spent = omega arith
+pub claims_none : (word : ℕ → ℕ) (slots : ℕ) → ((y : ℕ) → word y ≡ 0) → claims word slots ≡ 0
+claims_none word zero none = refl
+claims_none word (suc slots) none = let a = none slots in let b = claims_none word slots none in omega arith
 
 pub greatest_set : (vs : List Known) (i : ℕ) (v w : Known) → get_elem? vs i ≡ some v → v.clock ≤ w.clock → (greatest vs ≤ greatest (set vs i w)) × (w.clock ≤ greatest (set vs i w))
 greatest_set [] i v w e le = absurd (some-ne-none v (sym e))

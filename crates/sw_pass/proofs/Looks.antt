@@ -1,137 +1,143 @@
 -- The steps that change no word: losses are counted, what was joined is learnt, and a seat is split.
-use Rattle.std.proofs.Common.{◌≡◌, ℕ, ◌+◌, true, true≢false, List, [], ◌∷◌, ◌++◌, length, set, get_or, refl, sym, ap, subst, arith, length-set, length-append}
-use mathlib.Core.Option.{none}
+use Rattle.std.proofs.Common.{◌≡◌, ℕ, ◌+◌, ◌<◌, true≢false, List, [], ◌∷◌, ◌++◌, set, get_or, refl, sym, ap, subst, arith}
+use mathlib.Core.Option.{none, some}
 use mathlib.Core.Logic.{dite}
 use native.Mathlib.Decide.{dec_le}
 use native.Mathlib.Nat.{lt_of_not-le}
+use lib.ListN.{get_elem?}
 use Rattle.atomic_table.specs.Table.{Allows, Splits, keeps, step}
-use Rattle.atomic_table.proofs.Lists.{set_again}
+use Rattle.atomic_table.proofs.Lists.{set_again, set_here}
 use Rattle.sw_diskfile.proofs.Lists.{Contains-none}
 use Rattle.sw_ring.specs.Cluster.{ClusterModel}
-use Rattle.sw_pass.specs.Known.{history, size_of}
+use Rattle.sw_pass.specs.Known.{IsPass, history, size_of}
 use Rattle.sw_pass.specs.Losses.{LossesBelow, Rises}
-use Rattle.sw_pass.specs.Rule.{Account, IsKept, IsRuled, KindFits, is_spent}
-use Rattle.sw_pass.specs.Steps.{Learns, Reads, copied, learned, marked, noted, passed, with_crowd}
+use Rattle.sw_pass.specs.Rule.{Account, Fits, IsKept, KindFits, one_if}
+use Rattle.sw_pass.specs.Steps.{Learns, Reads, copied, learned, marked, noted, parted, passed}
 use Rattle.sw_pass.specs.declared.known.Kind.{Kind}
 use Rattle.sw_pass.specs.declared.known.Kind.TheVariants as kind
 use Rattle.sw_pass.specs.declared.known.Known.{Known}
-use Rattle.sw_pass.proofs.Keeps.{CountsLike, came, few_or_many, kept, kind_like, loads, not_crowded}
+use Rattle.sw_pass.proofs.Counts.{total_set}
+use Rattle.sw_pass.proofs.Keeps.{came, kept, kind_like, loads, there}
 use Rattle.sw_pass.proofs.Losses.{losses_earlier, losses_owed, rises_earlier, rises_owed}
 use Rattle.sw_pass.proofs.Views.{sound_of}
 
-same_counts : (v w : Known) → w.clock ≡ v.clock → w.raising ≡ v.raising → w.draws ≡ v.draws → w.joined ≡ v.joined → w.lost ≡ v.lost → w.kind ≡ v.kind → CountsLike v w
-same_counts v w a b c d e f = record { clock = a; raising = b; draws = c; joined = d; lost = e; spent = ap is_spent f }
+-- ---- losses are counted
 
 pub reads : (cluster : ClusterModel) (slots id : ℕ) (v : Known) (cs : List (ℕ × Unit))
-    → Allows (IsRuled cluster) slots id (v, cs) (size_of cluster + 1) (λ n. n) (Reads (step slots (size_of cluster + 1) 0 0 none) (v, cs))
-reads cluster slots id v cs s h _ at _ =
+    → Allows (IsKept cluster) slots id (v, cs) (size_of cluster + 1) (λ n. n) (Reads (step slots (size_of cluster + 1) 0 0 none) (v, cs))
+reads cluster slots id v cs s k _ at _ =
     let l : ℕ = get_or s.words (size_of cluster + 1) 0 in
-    few_or_many (length s.views) _
-    (λ few. let k = h few in let f = k.each id v at in (
+    let f = k.each id v at in (
       marked l v,
       keeps,
       tt,
-      loads cluster (size_of cluster + 1) id s cs (marked l v) (λ _. kept cluster s id v (marked l v) k at refl refl (same_counts v (marked l v) refl refl refl refl refl refl) (record {
-        kind = kind_like cluster k.account id v (marked l v) v.kind refl refl refl refl f.kind;
+      loads cluster (size_of cluster + 1) id s cs (marked l v) (kept cluster s id v (marked l v) k at refl refl (record { passes = omega arith; clock = refl; raising = refl; draws = refl; losing = refl; kind = refl }) (record {
+        kind = kind_like cluster k.account id v (marked l v) v.kind refl refl f.kind;
         drawn = f.drawn;
         histories = f.histories;
         closed = f.closed;
         olds = λ o has. let c = f.olds o has in record { drawn = c.drawn; histories = c.histories };
         mark = omega arith;
         clock = f.clock;
+        raising = f.raising;
+        losing = f.losing;
         late = f.late;
         full = f.full;
-        crowded = f.crowded;
       })),
       (
         refl,
-        (refl, λ was. was),
-        λ _. (
-          f.mark,
-          λ x. dite (dec_le (size_of cluster) x)
-              (λ out. let c = f.histories x in losses_earlier l c.0 (history v.histories x) (subst (LossesBelow l) (c.1) (subst (LossesBelow l) (sym (k.beyond x out).0) tt)))
-              (λ inside. let c = f.histories x in losses_earlier l c.0 (history v.histories x) (subst (LossesBelow l) c.1 (losses_owed l (k.account.owed x) (k.account.past x) (k.device x (lt_of_not-le inside)).beneath))),
-        ),
+        f.mark,
+        λ x. dite (dec_le (size_of cluster) x)
+            (λ out. let c = f.histories x in losses_earlier l c.0 (history v.histories x) (subst (LossesBelow l) (c.1) (subst (LossesBelow l) (sym (k.beyond x out).0) tt)))
+            (λ inside. let c = f.histories x in losses_earlier l c.0 (history v.histories x) (subst (LossesBelow l) c.1 (losses_owed l (k.account.owed x) (k.account.past x) (k.device x (lt_of_not-le inside)).beneath))),
       ),
-    ))
-    (λ many. (
-      with_crowd true (marked l v),
-      keeps,
-      tt,
-      loads cluster (size_of cluster + 1) id s cs (with_crowd true (marked l v)) (λ few. absurd (omega arith)),
-      (refl, (refl, λ _. refl), λ is. absurd (true≢false is)),
-    ))
+    )
 
 pub reads_at : (cluster : ClusterModel) (slots id word : ℕ) (v : Known) (cs : List (ℕ × Unit)) → word ≡ size_of cluster + 1
-    → Allows (IsRuled cluster) slots id (v, cs) word (λ n. n) (Reads (step slots word 0 0 none) (v, cs))
-reads_at cluster slots id word v cs e = subst (λ k. Allows (IsRuled cluster) slots id (v, cs) k (λ n. n) (Reads (step slots k 0 0 none) (v, cs))) (sym e) (reads cluster slots id v cs)
+    → Allows (IsKept cluster) slots id (v, cs) word (λ n. n) (Reads (step slots word 0 0 none) (v, cs))
+reads_at cluster slots id word v cs e = subst (λ k. Allows (IsKept cluster) slots id (v, cs) k (λ n. n) (Reads (step slots k 0 0 none) (v, cs))) (sym e) (reads cluster slots id v cs)
+
+-- ---- what was joined is learnt
 
 pub learns : (cluster : ClusterModel) (slots id : ℕ) (v : Known) (cs : List (ℕ × Unit))
-    → Allows (IsRuled cluster) slots id (v, cs) 0 (λ n. n) (Learns cluster (step slots 0 0 0 none) (v, cs))
-learns cluster slots id v cs s h _ at _ =
-    few_or_many (length s.views) _
-    (λ few. let k = h few in let f = k.each id v at in (
+    → Allows (IsKept cluster) slots id (v, cs) 0 (λ n. n) (Learns cluster (step slots 0 0 0 none) (v, cs))
+learns cluster slots id v cs s k _ at _ =
+    let f = k.each id v at in (
       learned v,
       keeps,
       tt,
-      loads cluster 0 id s cs (learned v) (λ _. kept cluster s id v (learned v) k at refl refl (same_counts v (learned v) refl refl refl refl refl refl) (record {
-        kind = kind_like cluster k.account id v (learned v) v.kind refl refl refl refl f.kind;
+      loads cluster 0 id s cs (learned v) (kept cluster s id v (learned v) k at refl refl (record { passes = omega arith; clock = refl; raising = refl; draws = refl; losing = refl; kind = refl }) (record {
+        kind = kind_like cluster k.account id v (learned v) v.kind refl refl f.kind;
         drawn = f.drawn;
         histories = f.histories;
         closed = f.closed;
         olds = λ o has. absurd (Contains-none o has);
         mark = f.mark;
         clock = f.clock;
+        raising = f.raising;
+        losing = f.losing;
         late = f.late;
         full = f.full;
-        crowded = f.crowded;
       })),
       (
         refl,
-        (refl, λ was. was),
-        λ _. record {
-          few = not_crowded cluster _ _ (length s.views) id k.account v few f v.crowded refl;
+        record {
           covers = f.olds;
-          sound = sound_of cluster k.account _ _ _ id v k.rules f (k.agree id id v v at at);
+          sound = sound_of cluster k.account _ _ id v k.rules f (k.agree id id v v at at);
           agree = k.agree id id v v at at;
           rises = λ x. let c = f.histories x in rises_earlier c.0 (history v.histories x) (subst Rises c.1 (dite (dec_le (size_of cluster) x)
               (λ out. subst Rises (sym (k.beyond x out).0) tt)
               (λ inside. rises_owed (k.account.owed x) (k.account.past x) (k.device x (lt_of_not-le inside)).rises)));
         },
       ),
-    ))
-    (λ many. (
-      with_crowd true (learned v),
-      keeps,
-      tt,
-      loads cluster 0 id s cs (with_crowd true (learned v)) (λ few. absurd (omega arith)),
-      (refl, (refl, λ _. refl), λ is. absurd (true≢false is)),
-    ))
+    )
 
--- a split: the new seat knows what the other does
-splits : (cluster : ClusterModel) (id : ℕ) (v : Known) (new : Kind) → is_spent new ≡ 0 → ((g : Account) (j : ℕ) → KindFits cluster g j (copied new v) new) → Splits (IsRuled cluster) id v v (copied new v)
-splits cluster id v new alive kinds s h at few =
-    let same : set s.views id v ≡ s.views = set_again s.views id v at in
-    let l : length (set s.views id v) ≡ length s.views = length-set s.views id v in
-    let l' : length (set s.views id v ++ copied new v ∷ []) ≡ length (set s.views id v) + 1 = length-append (set s.views id v) (copied new v ∷ []) in
-    let k = h (omega arith) in
+-- ---- a seat is split
+
+-- the new seat knows what the other does
+copied_fits : (cluster : ClusterModel) (g : Account) (n l id j passes : ℕ) (v : Known) (new : Kind) → KindFits cluster g j (copied new passes v) new → Fits cluster g n l id v → Fits cluster g n l j (copied new passes v)
+copied_fits cluster g n l id j passes v new kinds f = record {
+  kind = kinds;
+  drawn = f.drawn;
+  histories = f.histories;
+  closed = f.closed;
+  olds = λ o has. absurd (Contains-none o has);
+  mark = f.mark;
+  clock = omega arith;
+  raising = omega arith;
+  losing = omega arith;
+  late = λ x c. absurd (Contains-none x c);
+  full = λ is. absurd (true≢false (sym is));
+}
+
+pub splits_note : (cluster : ClusterModel) (id : ℕ) (v : Known) → Splits (IsKept cluster) id v v (noted v)
+splits_note cluster id v s k at =
+    let few = k.counts.passes in
+    subst (λ vs. IsKept cluster (record { words = s.words; homes = s.homes; views = vs ++ noted v ∷ [] })) (sym (set_again s.views id v at))
+    (came cluster s id v (noted v) k at refl (omega arith) refl refl refl refl (λ j. copied_fits cluster k.account _ _ id j 0 v kind.Note refl (k.each id v at)))
+
+pub splits_pass : (cluster : ClusterModel) (id passes : ℕ) (v : Known) → IsPass v → passes < v.passes → Splits (IsKept cluster) id v (parted passes v) (passed passes v)
+splits_pass cluster id passes v is less s k at =
+    let left : Known = parted passes v in
+    let vs : List Known = set s.views id left in
     let f = k.each id v at in
-    subst (λ vs. IsKept cluster (record { words = s.words; homes = s.homes; views = vs ++ copied new v ∷ [] })) (sym same)
-    (came cluster s id v (copied new v) k at refl refl refl refl refl alive (λ j. record {
-      kind = kinds k.account j;
+    let free : one_if v.raising ≡ 0 = ap one_if is.raising in
+    let parted_kept : IsKept cluster (record { words = s.words; homes = s.homes; views = vs }) =
+    kept cluster s id v left k at refl refl (record { passes = omega arith; clock = refl; raising = refl; draws = refl; losing = refl; kind = refl }) (record {
+      kind = kind_like cluster k.account id v left v.kind refl refl f.kind;
       drawn = f.drawn;
       histories = f.histories;
       closed = f.closed;
-      olds = λ o has. absurd (Contains-none o has);
+      olds = λ o has. let c = f.olds o has in record { drawn = c.drawn; histories = c.histories };
       mark = f.mark;
-      clock = omega arith;
-      late = λ x c. absurd (Contains-none x c);
-      full = λ is. absurd (true≢false (sym is));
-      crowded = f.crowded;
-    }))
-
-pub splits_pass : (cluster : ClusterModel) (id : ℕ) (v : Known) → Splits (IsRuled cluster) id v v (passed v)
-splits_pass cluster id v = splits cluster id v kind.Pass refl (λ g j. record { joined = refl; lost = refl; owing = refl })
-
-pub splits_note : (cluster : ClusterModel) (id : ℕ) (v : Known) → Splits (IsRuled cluster) id v v (noted v)
-splits_note cluster id v = splits cluster id v kind.Note refl (λ g j. record { joined = refl; lost = refl; owing = refl })
+      clock = f.clock;
+      raising = omega arith;
+      losing = f.losing;
+      late = f.late;
+      full = f.full;
+    }) in
+    let here : get_elem? vs id ≡ some left = set_here s.views id left (there s.views id v at) in
+    let counts = total_set (λ u. u.passes) s.views id v left at in
+    let few = k.counts.passes in
+    came cluster (record { words = s.words; homes = s.homes; views = vs }) id left (passed passes v) parted_kept here refl (omega (arith, counts, few, less)) refl refl refl refl
+    (λ j. copied_fits cluster parted_kept.account _ _ id j passes left kind.Pass refl (parted_kept.each id left here))

@@ -6,37 +6,43 @@ use Rattle.atomic_table.specs.Table.{opening}
 use Rattle.sw_diskfile.proofs.Lists.{Contains-none}
 use Rattle.sw_ring.specs.Cluster.{ClusterModel, KeepsRules}
 use Rattle.sw_pass.specs.Known.{size_of}
-use Rattle.sw_pass.specs.Rule.{Fits, IsRuled}
+use Rattle.sw_pass.specs.Rule.{Fits, IsKept, word_at}
 use Rattle.sw_pass.specs.Steps.{newcomer}
 use Rattle.sw_pass.specs.declared.known.Known.{Known}
+use Rattle.sw_pass.proofs.Counts.{claims_none}
 use Rattle.sw_pass.proofs.Histories.{continues_none}
 use Rattle.sw_pass.proofs.Joining.{nothing_closed}
 
-pub starts : (cluster : ClusterModel) (ws : List ℕ) (xs : List Unit) → KeepsRules cluster → length ws ≡ size_of cluster + 2 → ((i : ℕ) → ◌≡◌ {A = ℕ} (get_or ws i 0) 0) → IsRuled cluster (opening ws xs newcomer)
-starts cluster ws xs rules wide zeros few = record {
+pub starts : (cluster : ClusterModel) (ws : List ℕ) (xs : List Unit) → KeepsRules cluster → length ws ≡ size_of cluster + 2 → ((i : ℕ) → ◌≡◌ {A = ℕ} (get_or ws i 0) 0) → IsKept cluster (opening ws xs newcomer)
+starts cluster ws xs rules wide zeros = record {
   account = record { past = λ x. []; seat = λ x. 0; owed = λ x. None };
   rules = rules;
   wide = wide;
   each = one;
   agree = λ i j v w a b f g has. absurd (Contains-none f (subst (λ z. Contains z f) (sym (no_facts i v a)) has));
-  device = λ x inside. record { count = sym (zeros (x + 1)); fresh = λ device stamp mark here least. tt; rises = tt; beneath = tt; unclaimed = λ _. refl };
+  device = λ x inside. record { claimed = zeros (x + 1); fresh = λ device stamp mark here least. tt; rises = tt; beneath = tt; unclaimed = λ _. refl };
   nodes = λ slot inside begun. absurd (omega (arith, begun));
   beyond = λ x out. (refl, refl);
-  counts = let a = zeros 0 in let b = zeros (size_of cluster + 1) in record { pending = omega arith; clock = omega arith; joins = omega arith; lost = omega arith };
+  counts =
+      let a = zeros 0 in
+      let b = zeros (size_of cluster + 1) in
+      let c = claims_none (word_at ws) (size_of cluster) (λ x. zeros (x + 1)) in
+      record { passes = omega arith; pending = omega arith; clock = omega arith; lost = omega arith; nodes = sym c };
 }
   where
-    one : (id : ℕ) (v : Known) → get_elem? (newcomer ∷ []) id ≡ some v → Fits cluster (record { past = λ x. []; seat = λ x. 0; owed = λ x. None }) (get_or ws 0 0) (get_or ws (size_of cluster + 1) 0) 1 id v
-    one zero v e = subst (Fits cluster (record { past = λ x. []; seat = λ x. 0; owed = λ x. None }) (get_or ws 0 0) (get_or ws (size_of cluster + 1) 0) 1 zero) (some-injective _ _ e) (record {
-      kind = record { joined = refl; lost = refl; owing = refl };
+    one : (id : ℕ) (v : Known) → get_elem? (newcomer ∷ []) id ≡ some v → Fits cluster (record { past = λ x. []; seat = λ x. 0; owed = λ x. None }) (get_or ws 0 0) (get_or ws (size_of cluster + 1) 0) id v
+    one zero v e = subst (Fits cluster (record { past = λ x. []; seat = λ x. 0; owed = λ x. None }) (get_or ws 0 0) (get_or ws (size_of cluster + 1) 0) zero) (some-injective _ _ e) (record {
+      kind = refl;
       drawn = λ x c. absurd (Contains-none x c);
       histories = λ x. continues_none [];
       closed = nothing_closed cluster;
       olds = λ o c. absurd (Contains-none o c);
       mark = omega arith;
       clock = omega arith;
+      raising = omega arith;
+      losing = omega arith;
       late = λ x c. absurd (Contains-none x c);
       full = λ is. absurd (true≢false (sym is));
-      crowded = λ is. absurd (true≢false (sym is));
     })
     one (suc id) v e = absurd (some-ne-none v (sym e))
 

@@ -53,8 +53,8 @@ same_booked one other same =
     let whole : record { stamp = one.booked.stamp; name = one.booked.name; object = one.booked.object } ≡ record { stamp = other.booked.stamp; name = other.booked.name; object = other.booked.object } = cc (stamps, names, objects') in
     whole
 
-pub sound_of : (cluster : ClusterModel) (account : Account) (stamps losses seats id : ℕ) (known : Known) → KeepsRules cluster → Fits cluster account stamps losses seats id known → AllAgree known.drawn known.drawn → IsSoundView cluster (view_of cluster known)
-sound_of cluster account stamps losses seats id known rules fits agree = record {
+pub sound_of : (cluster : ClusterModel) (account : Account) (stamps losses id : ℕ) (known : Known) → KeepsRules cluster → Fits cluster account stamps losses id known → AllAgree known.drawn known.drawn → IsSoundView cluster (view_of cluster known)
+sound_of cluster account stamps losses id known rules fits agree = record {
   rules = rules;
   closed = fits.closed;
   book = record {
@@ -96,8 +96,8 @@ sound_of cluster account stamps losses seats id known rules fits agree = record 
         (guarded_owed cluster device fact.stamp fact.mark (account.owed slot) (account.past slot) ((fits.drawn fact has).guarded device))
 
 -- a stamp that no seat drew is fresh for each
-pub fresh_of : (cluster : ClusterModel) (account : Account) (stamps losses seats id stamp : ℕ) (known : Known) → Fits cluster account stamps losses seats id known → stamps ≤ stamp → IsFresh cluster (view_of cluster known) stamp
-fresh_of cluster account stamps losses seats id stamp known fits least = (
+pub fresh_of : (cluster : ClusterModel) (account : Account) (stamps losses id stamp : ℕ) (known : Known) → Fits cluster account stamps losses id known → stamps ≤ stamp → IsFresh cluster (view_of cluster known) stamp
+fresh_of cluster account stamps losses id stamp known fits least = (
   (λ booked has.
       let from = mapped (λ (put : DrawnPut). put.booked) (puts_in known.drawn) booked has in
       let below = (fits.drawn (drawn_put from.0) (put_out known.drawn from.0 from.1)).stamp in

@@ -1,5 +1,5 @@
 -- What a seat of the table knows, as a view of the cluster. Histories lie by slot: the slot of a device is its number in ascending id.
-use Rattle.std.specs.Prelude.{◌≡◌, ◌==◌, ◌≤◌, ◌+◌, ◌*◌, if◌then◌else◌, ℕ, zero, suc, false, List, [], ◌∷◌, length, Contains, Option, Some, None, slice_get}
+use Rattle.std.specs.Prelude.{◌≡◌, ◌==◌, ◌≤◌, if◌then◌else◌, ℕ, zero, suc, false, List, [], ◌∷◌, length, Contains, Option, Some, None, slice_get}
 use Rattle.atomic_table.specs.Seated.{TableId}
 use Rattle.sw_types.specs.Object.{ObjectModel}
 use Rattle.sw_ring.specs.Cluster.{ClusterModel, ids_of}
@@ -97,11 +97,13 @@ pub record HeldNode : Type 0 where
 -- a seat that neither raised nor drew
 pub record IsNote (known : Known) : Type 0 where
   pub kind : known.kind ≡ kind.Note
+  pub passes : known.passes ≡ 0
   pub clock : known.clock ≡ 0
   pub draws : known.draws ≡ 0
   pub raising : known.raising ≡ false
 
--- a seat of the node at a slot, which added at most two events for each note that it joined, and one
-pub record IsNode (slot : ℕ) (known : Known) : Type 0 where
-  pub kind : known.kind ≡ kind.Node slot
-  pub room : length (history known.histories slot) ≤ 2 * known.joined + 1
+-- a seat that draws stamps, and is not between its raise and its draw
+pub record IsPass (known : Known) : Type 0 where
+  pub kind : known.kind ≡ kind.Pass
+  pub passes : 1 ≤ known.passes
+  pub raising : known.raising ≡ false

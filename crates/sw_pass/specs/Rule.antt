@@ -1,6 +1,6 @@
 -- The rule of the table, which holds between any two steps of any number of threads. Word 0 counts stamps, word slot + 1 the events at a slot,
 -- and the last word counts losses.
-use Rattle.std.specs.Prelude.{◌≡◌, ◌∷◌, ℕ, suc, ◌+◌, ◌*◌, ◌^◌, ◌<◌, ◌≤◌, max, Bool, true, false, List, [], length, Contains, slice_index, Option, None}
+use Rattle.std.specs.Prelude.{◌≡◌, ◌∷◌, ℕ, zero, suc, ◌+◌, ◌<◌, ◌≤◌, max, Bool, true, false, List, [], length, Contains, slice_index, Option, None}
 use mathlib.Core.Option.{some}
 use lib.ListN.{get_elem?}
 use Rattle.atomic_table.specs.Table.{State}
@@ -11,7 +11,7 @@ use Rattle.sw_view.specs.View.{IsClosed}
 use Rattle.sw_view.specs.declared.event.Event.{Event}
 use Rattle.sw_pass.specs.Known.{AllAgree, Covers, history, size_of, slot_of, view_of}
 use Rattle.sw_pass.specs.Losses.{LossesBelow, Rises, with_owed}
-use Rattle.sw_pass.specs.Steps.{MayDraw}
+use Rattle.sw_pass.specs.Steps.{MayDraw, most_losses, most_passes}
 use Rattle.sw_pass.specs.declared.known.Drawn.{Drawn}
 use Rattle.sw_pass.specs.declared.known.Kind.{Kind}
 use Rattle.sw_pass.specs.declared.known.Kind.TheVariants as kind
@@ -32,22 +32,33 @@ abbrev pub one_if : Bool → ℕ
 one_if true = 1
 one_if false = 0
 
-abbrev pub is_spent : Kind → ℕ
-is_spent kind.Spent = 1
-is_spent other = 0
+abbrev pub is_node : Kind → ℕ
+is_node (kind.Node slot) = 1
+is_node other = 0
+
+-- how many of the first slots were claimed, by their words
+abbrev pub claims : (word : ℕ → ℕ) → (slots : ℕ) → ℕ
+claims word zero = 0
+claims word (suc slot) = word slot + claims word slot
 
 -- the greatest clock that any seat raised to
 abbrev pub greatest : List Known → ℕ
 greatest [] = 0
 greatest (known ∷ others) = max known.clock (greatest others)
 
--- What holds of the counts: stamps are left for those who are between raise and draw; word 0 is no more than the greatest clock and all draws;
--- each note that a node joined is spent; and each loss was drawn by a node.
-pub record CountsFit (stamps losses : ℕ) (seats : List Known) : Type 0 where
-  pub pending : stamps + total (λ seat. one_if seat.raising) seats ≤ suc greatest_stamp + length seats
+-- the word of a slot
+abbrev pub word_at : List ℕ → (slot : ℕ) → ℕ
+word_at words slot = slice_index words (slot + 1)
+
+-- What holds of the counts, so that no word wraps: there are only so many passes, and stamps are left for those that are between raise and draw;
+-- losses are left for the nodes that found fewer than so many; and each claim made one node. Word 0 is no more than the greatest clock and all
+-- draws.
+pub record CountsFit (stamps losses claimed : ℕ) (seats : List Known) : Type 0 where
+  pub passes : total (λ seat. seat.passes) seats ≤ most_passes
+  pub pending : stamps + total (λ seat. one_if seat.raising) seats ≤ suc greatest_stamp + most_passes
   pub clock : stamps ≤ greatest seats + total (λ seat. seat.draws) seats
-  pub joins : total (λ seat. seat.joined) seats ≤ total (λ seat. is_spent seat.kind) seats
-  pub lost : losses ≡ total (λ seat. seat.lost) seats
+  pub lost : losses + total (λ seat. one_if seat.losing) seats ≤ most_losses + total (λ seat. is_node seat.kind) seats
+  pub nodes : total (λ seat. is_node seat.kind) seats ≡ claimed
 
 -- ---- one account of all devices
 
@@ -61,10 +72,15 @@ pub record Account : Type 0 where
 abbrev pub due : Account → (slot : ℕ) → List Event
 due account slot = with_owed (account.owed slot) (account.past slot)
 
--- What holds of a slot: its word counts its events; the numbers of its losses rise and were drawn; a stamp that is not drawn yet is guarded
--- by whatever mark, so that no disk that was replaced had it; and a slot that no node claimed owes nothing.
+-- whether anything happened
+abbrev pub begun : List Event → ℕ
+begun [] = 0
+begun (event ∷ past) = 1
+
+-- What holds of a slot: its word tells whether it was claimed; the numbers of its losses rise and were drawn; a stamp that is not drawn yet is
+-- guarded by whatever mark, so that no disk that was replaced had it; and a slot that no node claimed owes nothing.
 pub record DeviceFits (cluster : ClusterModel) (account : Account) (stamps losses word slot : ℕ) : Type 0 where
-  pub count : length (account.past slot) ≡ word
+  pub claimed : word ≡ begun (account.past slot)
   pub fresh : (device stamp mark : ℕ) → slot_of cluster device ≡ slot → stamps ≤ stamp → IsGuarded cluster device stamp mark (due account slot)
   pub rises : Rises (due account slot)
   pub beneath : LossesBelow losses (due account slot)
@@ -72,31 +88,23 @@ pub record DeviceFits (cluster : ClusterModel) (account : Account) (stamps losse
 
 -- ---- one seat
 
--- The seat of a node: it alone is so, it knows all that happened at its slot, at most two events for each note that was joined into it, and one,
--- and drew no more losses than notes.
+-- The seat of a node: it alone is so, and it knows all that happened at its slot.
 pub record IsNodeOf (cluster : ClusterModel) (account : Account) (id : ℕ) (known : Known) (slot : ℕ) : Type 0 where
   pub inside : slot < size_of cluster
   pub holder : id ≡ account.seat slot
   pub whole : history known.histories slot ≡ account.past slot
   pub begun : 0 < length (account.past slot)
   pub owing : known.owing ≡ account.owed slot
-  pub lost : known.lost ≤ known.joined
-  pub room : length (account.past slot) ≤ 2 * known.joined + 1
 
 -- each slot at which something happened has its node among the seats
 abbrev pub HaveNodes : ClusterModel → Account → List Known → Type 0
 HaveNodes cluster account seats =
     (slot : ℕ) → slot < size_of cluster → 0 < length (account.past slot) → (known : Known) × (get_elem? seats (account.seat slot) ≡ some known) × (known.kind ≡ kind.Node slot)
 
--- another seat counts nothing
-pub record IsPlain (known : Known) : Type 0 where
-  pub joined : known.joined ≡ 0
-  pub lost : known.lost ≡ 0
-  pub owing : known.owing ≡ None
-
+-- another seat owes nothing
 abbrev pub KindFits : ClusterModel → Account → (id : ℕ) → Known → Kind → Type 0
 KindFits cluster account id known (kind.Node slot) = IsNodeOf cluster account id known slot
-KindFits cluster account id known other = IsPlain known
+KindFits cluster account id known other = known.owing ≡ None
 
 -- What drew a stamp: the stamp was drawn, the mark was read, and each disk that was replaced though it had something so new was replaced as a
 -- loss whose number is at least the mark.
@@ -108,8 +116,8 @@ pub record IsDrawn (cluster : ClusterModel) (account : Account) (stamps losses :
   pub guarded : (device : ℕ) → IsGuarded cluster device drawn.stamp drawn.mark (due account (slot_of cluster device))
 
 -- What holds of one seat: its histories begin as all that happened did, it is closed by what it knows itself, and word 0 is no less than the
--- clock that it raised to.
-pub record Fits (cluster : ClusterModel) (account : Account) (stamps losses seats id : ℕ) (known : Known) : Type 0 where
+-- clock that it raised to. A pass alone is between raise and draw, and a node alone may draw a loss.
+pub record Fits (cluster : ClusterModel) (account : Account) (stamps losses id : ℕ) (known : Known) : Type 0 where
   pub kind : KindFits cluster account id known known.kind
   pub drawn : (fact : Drawn) → Contains known.drawn fact → IsDrawn cluster account stamps losses fact
   pub histories : (slot : ℕ) → Continues (account.past slot) (history known.histories slot)
@@ -117,9 +125,10 @@ pub record Fits (cluster : ClusterModel) (account : Account) (stamps losses seat
   pub olds : (old : Old) → Contains known.olds old → Covers known old
   pub mark : known.mark ≤ losses
   pub clock : known.clock ≤ stamps
+  pub raising : one_if known.raising ≤ known.passes
+  pub losing : one_if known.losing ≤ is_node known.kind
   pub late : (slot : ℕ) → Contains known.late slot → 0 < length (account.past slot)
   pub full : known.full ≡ true → greatest_stamp < stamps
-  pub crowded : known.crowded ≡ true → 2 ^ 63 ≤ seats
 
 -- ---- the rule
 
@@ -127,15 +136,11 @@ pub record IsKept (cluster : ClusterModel) (table : Table) : Type 0 where
   pub account : Account
   pub rules : KeepsRules cluster
   pub wide : length table.words ≡ size_of cluster + 2
-  pub each : (id : ℕ) (known : Known) → get_elem? table.views id ≡ some known → Fits cluster account (slice_index table.words 0) (slice_index table.words (size_of cluster + 1)) (length table.views) id known
+  pub each : (id : ℕ) (known : Known) → get_elem? table.views id ≡ some known → Fits cluster account (slice_index table.words 0) (slice_index table.words (size_of cluster + 1)) id known
   pub agree : (i j : ℕ) (one other : Known) → get_elem? table.views i ≡ some one → get_elem? table.views j ≡ some other → AllAgree one.drawn other.drawn
   pub device : (slot : ℕ) → slot < size_of cluster
-      → DeviceFits cluster account (slice_index table.words 0) (slice_index table.words (size_of cluster + 1)) (slice_index table.words (slot + 1)) slot
+      → DeviceFits cluster account (slice_index table.words 0) (slice_index table.words (size_of cluster + 1)) (word_at table.words slot) slot
   pub nodes : HaveNodes cluster account table.views
   -- nothing happens beyond the devices
   pub beyond : (slot : ℕ) → size_of cluster ≤ slot → (account.past slot ≡ []) × (account.owed slot ≡ None)
-  pub counts : CountsFit (slice_index table.words 0) (slice_index table.words (size_of cluster + 1)) table.views
-
--- unless 2^63 seats were made
-abbrev pub IsRuled : ClusterModel → Table → Type 0
-IsRuled cluster table = length table.views < 2 ^ 63 → IsKept cluster table
+  pub counts : CountsFit (slice_index table.words 0) (slice_index table.words (size_of cluster + 1)) (claims (word_at table.words) (size_of cluster)) table.views

@@ -1,5 +1,5 @@
 -- How each step changes what its seat knows, and what it tells.
-use Rattle.std.specs.Prelude.{◌≡◌, ◌⊎◌, ℕ, ◌+◌, ◌-◌, ◌<◌, ◌≤◌, ◌==◌, ◌||◌, max, nat_lt, if◌then◌else◌, Bool, true, false, List, [], ◌∷◌, ◌++◌, length, Contains, Option, Some, None, IfSome}
+use Rattle.std.specs.Prelude.{◌≡◌, ◌⊎◌, ℕ, ◌+◌, ◌-◌, ◌^◌, ◌<◌, ◌≤◌, ◌==◌, max, nat_lt, if◌then◌else◌, true, false, List, [], ◌∷◌, ◌++◌, length, Contains, Option, Some, None, IfSome}
 use Rattle.atomic_table.specs.Table.{Me, Step}
 use Rattle.sw_types.specs.Name.{NameModel, name_fault}
 use Rattle.sw_types.specs.Object.{IsObject, ObjectModel}
@@ -20,10 +20,15 @@ use Rattle.sw_pass.specs.declared.known.Old.{Old}
 
 -- ---- seats that come and go
 
+-- so many passes a table has at most
+abbrev pub most_passes : ℕ
+most_passes = 2 ^ 16
+
 -- a seat that did nothing yet, and knows this
-abbrev pub seated : Kind → List Drawn → List (List Event) → (mark : ℕ) → (crowded : Bool) → Known
-seated kind drawn histories mark crowded = record {
+abbrev pub seated : Kind → (passes : ℕ) → List Drawn → List (List Event) → (mark : ℕ) → Known
+seated kind passes drawn histories mark = record {
   kind = kind;
+  passes = passes;
   drawn = drawn;
   histories = histories;
   olds = [];
@@ -31,31 +36,34 @@ seated kind drawn histories mark crowded = record {
   clock = 0;
   raising = false;
   draws = 0;
-  joined = 0;
-  lost = 0;
+  losing = false;
   owing = None;
   late = [];
   full = false;
-  crowded = crowded;
 }
 
 -- the first seat
 abbrev pub newcomer : Known
-newcomer = seated kind.Pass [] [] 0 false
+newcomer = seated kind.Pass most_passes [] [] 0
 
 -- a new seat knows what another does
-abbrev pub copied : Kind → Known → Known
-copied kind known = seated kind known.drawn known.histories known.mark known.crowded
+abbrev pub copied : Kind → (passes : ℕ) → Known → Known
+copied kind passes known = seated kind passes known.drawn known.histories known.mark
 
-abbrev pub passed : Known → Known
-passed known = copied kind.Pass known
+-- a pass that may be split into so many
+abbrev pub passed : (passes : ℕ) → Known → Known
+passed passes known = copied kind.Pass passes known
+
+-- and what is left of the pass that it comes of
+abbrev pub parted : (passes : ℕ) → Known → Known
+parted passes known = record known { passes = known.passes - passes }
 
 abbrev pub noted : Known → Known
-noted known = copied kind.Note known
+noted known = copied kind.Note 0 known
 
 -- a seat that was joined away
 abbrev pub spent : Known
-spent = seated kind.Spent [] [] 0 false
+spent = seated kind.Spent 0 [] [] 0
 
 -- ---- joins
 
@@ -67,10 +75,6 @@ abbrev pub longest : List (List Event) → List (List Event) → List (List Even
 longest [] others = others
 longest (one ∷ ones) [] = one ∷ ones
 longest (one ∷ ones) (other ∷ others) = longer one other ∷ longest ones others
-
-abbrev pub is_node : Kind → ℕ
-is_node (kind.Node slot) = 1
-is_node other = 0
 
 -- the seat of a node keeps the history of its own device, which is the whole of it
 abbrev pub own_kept : Kind → List (List Event) → List (List Event) → List (List Event)
@@ -87,23 +91,13 @@ joined one other = record one {
   histories = own_kept one.kind one.histories other.histories;
   olds = old_of one ∷ old_of other ∷ [];
   mark = max one.mark other.mark;
-  joined = one.joined + is_node one.kind;
-  crowded = one.crowded || other.crowded;
 }
 
 abbrev pub learned : Known → Known
 learned known = record known { olds = [] }
 
-abbrev pub with_crowd : Bool → Known → Known
-with_crowd crowded known = record known { crowded = crowded }
-
--- two that know the same, but that one may have found that 2^63 seats were made
-abbrev pub RestOf : Known → Known → Type 0
-RestOf one other = (one ≡ with_crowd one.crowded other) × (other.crowded ≡ true → one.crowded ≡ true)
-
 -- what a join tells: what both knew is known, and the view is sound
 pub record Knows (cluster : ClusterModel) (known : Known) : Type 0 where
-  pub few : known.crowded ≡ false
   pub covers : (old : Old) → Contains known.olds old → Covers known old
   pub sound : IsSoundView cluster (view_of cluster known)
   pub agree : AllAgree known.drawn known.drawn
@@ -139,7 +133,7 @@ take name object found known = if nat_lt greatest_stamp found then filled (count
 
 -- the stamps were found to be spent, at the raise or at the draw
 abbrev pub Refused : (clock : ℕ) → (before after : Known) → Type 0
-Refused clock before after = (after ≡ filled (raised clock before)) ⊎ RestOf after (filled (counted (raised clock before)))
+Refused clock before after = (after ≡ filled (raised clock before)) ⊎ (after ≡ filled (counted (raised clock before)))
 
 -- a stamp is no less than the clock that the seat raised to, and above each that the seat knew
 pub record IsFresh (stamp : ℕ) (known : Known) : Type 0 where
@@ -170,8 +164,19 @@ pub record MayAdvance (cluster : ClusterModel) (slot : ℕ) (event : Event) (kno
   pub fair : IsFairEvent cluster (known_to cluster (view_of cluster known)) event
   pub replayed : (device : ℕ) → HasSlot cluster device slot → (disk : Disk) × Replays cluster device (event ∷ history known.histories slot) disk
 
+-- so many losses are counted at most, and one more for each node that found fewer
+abbrev pub most_losses : ℕ
+most_losses = 2 ^ 63
+
+-- the seat of a node may draw a loss
+abbrev pub able : Known → Known
+able known = record known { losing = true }
+
+abbrev pub look : (found : ℕ) → Known → Known
+look found known = if nat_lt found most_losses then able known else known
+
 abbrev pub lost_one : (loss : ℕ) → Known → Known
-lost_one loss known = record known { lost = known.lost + 1; owing = Some loss }
+lost_one loss known = record known { losing = false; owing = Some loss }
 
 -- ---- what a step tells: of the step, the seat before, the number found, and the seat after
 
@@ -179,20 +184,22 @@ abbrev pub Raises : Step Unit → Me Unit Known → ℕ → Me Unit Known → Ty
 Raises step before found after = after ≡ (raise step.first found before.0, before.1)
 
 abbrev pub Takes : NameModel → Option ObjectModel → Step Unit → Me Unit Known → ℕ → Me Unit Known → Type 0
-Takes name object step before found after = (after.1 ≡ before.1) × RestOf after.0 (take name object found before.0) × (after.0.crowded ≡ false → IsFresh found before.0)
+Takes name object step before found after = (after ≡ (take name object found before.0, before.1)) × IsFresh found before.0
 
 abbrev pub Reads : Step Unit → Me Unit Known → ℕ → Me Unit Known → Type 0
-Reads step before found after = (after.1 ≡ before.1) × RestOf after.0 (marked found before.0)
-    × (after.0.crowded ≡ false → (before.0.mark ≤ found) × ((slot : ℕ) → LossesBelow found (history before.0.histories slot)))
+Reads step before found after = (after ≡ (marked found before.0, before.1)) × (before.0.mark ≤ found) × ((slot : ℕ) → LossesBelow found (history before.0.histories slot))
 
 abbrev pub Learns : ClusterModel → Step Unit → Me Unit Known → ℕ → Me Unit Known → Type 0
-Learns cluster step before found after = (after.1 ≡ before.1) × RestOf after.0 (learned before.0) × (after.0.crowded ≡ false → Knows cluster before.0)
+Learns cluster step before found after = (after ≡ (learned before.0, before.1)) × Knows cluster before.0
 
 abbrev pub Claims : Step Unit → Me Unit Known → ℕ → Me Unit Known → Type 0
 Claims step before found after = after ≡ (claim (step.word - 1) found before.0, before.1)
 
 abbrev pub Advances : Event → Step Unit → Me Unit Known → ℕ → Me Unit Known → Type 0
 Advances event step before found after = after ≡ (advanced (step.word - 1) event before.0, before.1)
+
+abbrev pub Looks : Step Unit → Me Unit Known → ℕ → Me Unit Known → Type 0
+Looks step before found after = after ≡ (look found before.0, before.1)
 
 abbrev pub Loses : Step Unit → Me Unit Known → ℕ → Me Unit Known → Type 0
 Loses step before found after = after ≡ (lost_one found before.0, before.1)

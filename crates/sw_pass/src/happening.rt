@@ -33,3 +33,14 @@ impl Cause for Brand {
 
     ghost object = { None };
 }
+
+/// How many passes one may be split into that comes of another.
+pub trait Share {
+    ghost use Rattle.std.specs.Prelude.{ℕ};
+
+    ghost passes: { ℕ };
+}
+
+impl Share for Brand {
+    ghost passes = { 0 };
+}

@@ -33,6 +33,8 @@ pub struct Old {
 /// What a seat knows, and what it did.
 pub struct Known {
     pub kind: Kind,
+    /// How many passes it may be split into; 0 where it draws no stamps.
+    pub passes: u64,
     /// What drew a stamp.
     pub drawn: LinkedList<Drawn>,
     /// The history of each device, by its slot, the latest event first.
@@ -47,16 +49,12 @@ pub struct Known {
     pub raising: bool,
     /// How many stamps it drew.
     pub draws: u64,
-    /// How many notes were joined into the seat of a node.
-    pub joined: u64,
-    /// How many losses the seat of a node drew.
-    pub lost: u64,
+    /// The seat of a node found that another loss can be counted, and drew none since.
+    pub losing: bool,
     /// The loss that it drew and that is not in its history yet.
     pub owing: Option<u64>,
     /// The slots that it found to be claimed.
     pub late: LinkedList<u64>,
     /// It found that the stamps are spent.
     pub full: bool,
-    /// It found that 2^63 seats were made.
-    pub crowded: bool,
 }

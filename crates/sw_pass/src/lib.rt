@@ -10,7 +10,7 @@ mod pass;
 mod rule;
 mod table;
 
-pub use crate::happening::{Cause, Happening};
+pub use crate::happening::{Cause, Happening, Share};
 pub use crate::known::{Drawn, Kind, Known, Old};
 pub use crate::laws::pairs_law;
 pub use crate::node_seat::NodeSeat;

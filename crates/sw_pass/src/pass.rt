@@ -1,14 +1,13 @@
 //! Passes, which draw stamps.
 
-ghost use Rattle.std.specs.Prelude.{◌≡◌, ◌≤◌, ℕ, IfOk, IfSome, None, OnErr, [], false, option_copied};
+ghost use Rattle.std.specs.Prelude.{◌≡◌, ◌≤◌, ◌<◌, ℕ, IfOk, IfSome, None, OnErr, [], option_copied};
 ghost use Rattle.sw_types.specs.Name.{name_fault};
 ghost use Rattle.sw_types.specs.Object.{IsObject};
-ghost use Rattle.sw_pass.specs.Known.{history};
+ghost use Rattle.sw_pass.specs.Known.{IsPass, history};
 ghost use Rattle.sw_pass.specs.Losses.{LossesBelow};
-ghost use Rattle.sw_pass.specs.Steps.{IsFresh, Knows, MayDraw, Refused, RestOf, drew, joined, learned, marked, noted, passed, raised};
-ghost use Rattle.sw_pass.specs.declared.known.Kind.TheVariants as kind;
+ghost use Rattle.sw_pass.specs.Steps.{IsFresh, Knows, MayDraw, Refused, drew, joined, learned, marked, noted, parted, passed, raised};
 
-use crate::happening::Cause;
+use crate::happening::{Cause, Share};
 use crate::known::Known;
 use crate::note::Note;
 use crate::rule::{AsNote, AsPass, Both, Learn, OfCluster, Raise, Read, Take};
@@ -26,20 +25,19 @@ pub struct Pass<C: OfCluster> {
 }
 
 impl<C: OfCluster> Model for Pass<C> {
-    ghost use Rattle.std.specs.Prelude.{◌≡◌, [], false};
-    ghost use Rattle.sw_pass.specs.Known.{Held};
-    ghost use Rattle.sw_pass.specs.declared.known.Kind.TheVariants as kind;
+    ghost use Rattle.std.specs.Prelude.{◌≡◌, []};
+    ghost use Rattle.sw_pass.specs.Known.{Held, IsPass};
 
     ghost Value = { Held };
 
     ghost view = { λ p. record { table = p.seat.table_id; known = p.seat.me.0 } };
 
-    ghost invariant = { λ p. (p.seat.me.1 ≡ []) × (p.seat.me.0.kind ≡ kind.Pass) × (p.seat.me.0.raising ≡ false) };
+    ghost invariant = { λ p. (p.seat.me.1 ≡ []) × IsPass p.seat.me.0 };
 }
 
 impl<C: OfCluster> Pass<C> {
     pub(crate) fn of(seat: Seat<(), Known>) -> Pass<C>
-        requires { (seat.me.1 ≡ []) × (seat.me.0.kind ≡ kind.Pass) × (seat.me.0.raising ≡ false) }
+        requires { (seat.me.1 ≡ []) × IsPass seat.me.0 }
         ensures { (result.table ≡ seat.table_id) × (result.known ≡ seat.me.0) }
     {
         Pass {
@@ -62,8 +60,8 @@ impl<C: OfCluster> Pass<C> {
         requires name { name_fault name.now ≡ None }
         requires object { IfSome (option_copied object) IsObject }
         ensures table { self.new.table ≡ self.old.table }
-        ensures drawn { IfOk result (λ stamp. RestOf self.new.known (drew stamp name.now (option_copied object.entry) (raised clock self.old.known))) }
-        ensures fresh { IfOk result (λ stamp. self.new.known.crowded ≡ false → IsFresh stamp (raised clock self.old.known)) }
+        ensures drawn { IfOk result (λ stamp. self.new.known ≡ drew stamp name.now (option_copied object.entry) (raised clock self.old.known)) }
+        ensures fresh { IfOk result (λ stamp. IsFresh stamp (raised clock self.old.known)) }
         ensures spent { OnErr result (Refused clock self.old.known self.new.known) }
     {
         self.draw_for::<Brand>(table, clock, name, object)
@@ -81,8 +79,8 @@ impl<C: OfCluster> Pass<C> {
         requires object { option_copied object ≡ J.object }
         requires may { MayDraw J.name J.object }
         ensures table { self.new.table ≡ self.old.table }
-        ensures drawn { IfOk result (λ stamp. RestOf self.new.known (drew stamp J.name J.object (raised clock self.old.known))) }
-        ensures fresh { IfOk result (λ stamp. self.new.known.crowded ≡ false → IsFresh stamp (raised clock self.old.known)) }
+        ensures drawn { IfOk result (λ stamp. self.new.known ≡ drew stamp J.name J.object (raised clock self.old.known)) }
+        ensures fresh { IfOk result (λ stamp. IsFresh stamp (raised clock self.old.known)) }
         ensures spent { OnErr result (Refused clock self.old.known self.new.known) }
     {
         let words = &table.table.shared;
@@ -98,22 +96,34 @@ impl<C: OfCluster> Pass<C> {
     pub fn loss_mark(&mut self, table: &StampTable<C>) -> u64
         requires table { self.old.table ≡ table.now }
         ensures table { self.new.table ≡ self.old.table }
-        ensures known { RestOf self.new.known (marked result self.old.known) }
-        ensures rises { self.new.known.crowded ≡ false → self.old.known.mark ≤ result }
-        ensures above { self.new.known.crowded ≡ false → (slot : ℕ) → LossesBelow result (history self.old.known.histories slot) }
+        ensures known { self.new.known ≡ marked result self.old.known }
+        ensures rises { self.old.known.mark ≤ result }
+        ensures above { (slot : ℕ) → LossesBelow result (history self.old.known.histories slot) }
     {
         let word = table.devices as usize + 1;
         table.table.shared.load::<Read>(&mut self.seat, word)
     }
 
-    /// A second pass that knows what this one does.
-    pub fn split(&mut self, table: &StampTable<C>) -> Pass<C>
+    /// A second pass that knows what this one does, and may itself be split into so many; this one into so many fewer.
+    pub fn split(&mut self, table: &StampTable<C>, passes: u16) -> Pass<C>
         requires table { self.old.table ≡ table.now }
-        ensures same { self.new ≡ self.old }
+        requires passes { (1 ≤ passes) × (passes < self.old.known.passes) }
+        ensures rest { self.new ≡ record { table = self.old.table; known = parted passes self.old.known } }
         ensures table { result.table ≡ self.old.table }
-        ensures known { result.known ≡ passed self.old.known }
+        ensures known { result.known ≡ passed passes self.old.known }
     {
-        Pass::of(table.table.shared.split_seat::<AsPass>(&mut self.seat))
+        self.split_for::<Brand>(table, passes)
+    }
+
+    fn split_for<J: Share>(&mut self, table: &StampTable<C>, passes: u16) -> Pass<C>
+        requires table { self.old.table ≡ table.now }
+        requires share { J.passes ≡ passes }
+        requires passes { (1 ≤ passes) × (passes < self.old.known.passes) }
+        ensures rest { self.new ≡ record { table = self.old.table; known = parted passes self.old.known } }
+        ensures table { result.table ≡ self.old.table }
+        ensures known { result.known ≡ passed passes self.old.known }
+    {
+        Pass::of(table.table.shared.split_seat::<AsPass<J>>(&mut self.seat))
     }
 
     /// A note of what it knows.
@@ -130,13 +140,23 @@ impl<C: OfCluster> Pass<C> {
     pub fn join(&mut self, table: &StampTable<C>, note: Note<C>)
         requires table { (self.old.table ≡ table.now) × (note.table ≡ table.now) }
         ensures table { self.new.table ≡ self.old.table }
-        ensures known { RestOf self.new.known (learned (joined self.old.known note.known)) }
-        ensures learnt { self.new.known.crowded ≡ false → Knows C.cluster (joined self.old.known note.known) }
+        ensures known { self.new.known ≡ learned (joined self.old.known note.known) }
+        ensures learnt { Knows C.cluster (joined self.old.known note.known) }
     {
         table
             .table
             .shared
             .join_seat::<Both>(&mut self.seat, note.into_seat());
+        table.table.shared.load::<Learn<C>>(&mut self.seat, 0);
+    }
+
+    /// Learns that what it knows is sound.
+    pub fn learn(&mut self, table: &StampTable<C>)
+        requires table { self.old.table ≡ table.now }
+        ensures table { self.new.table ≡ self.old.table }
+        ensures known { self.new.known ≡ learned self.old.known }
+        ensures learnt { Knows C.cluster self.old.known }
+    {
         table.table.shared.load::<Learn<C>>(&mut self.seat, 0);
     }
 }

@@ -1,6 +1,6 @@
 //! The rule of the table, and what each step tells.
 
-use crate::happening::{Cause, Happening};
+use crate::happening::{Cause, Happening, Share};
 use crate::known::Known;
 use atomic_table::{Join, Play, Split, TableRule};
 use std::marker::{Brand, PhantomData};
@@ -23,10 +23,10 @@ pub struct StampRule<C: OfCluster> {
 }
 
 impl<C: OfCluster> TableRule<(), Known, u64> for StampRule<C> {
-    ghost use Rattle.sw_pass.specs.Rule.{IsRuled};
+    ghost use Rattle.sw_pass.specs.Rule.{IsKept};
     ghost use Rattle.sw_pass.specs.Steps.{newcomer};
 
-    ghost holds = { λ devices table. IsRuled C.cluster table };
+    ghost holds = { λ devices table. IsKept C.cluster table };
 
     ghost first = { λ devices. newcomer };
 }
@@ -91,6 +91,15 @@ impl<J: Happening> Play<(), Known> for Advance<J> {
     ghost then = { Advances J.event };
 }
 
+/// A node asks whether another loss can be counted.
+pub(crate) struct Look;
+
+impl Play<(), Known> for Look {
+    ghost use Rattle.sw_pass.specs.Steps.{Looks};
+
+    ghost then = { Looks };
+}
+
 /// A node draws the number of a loss.
 pub(crate) struct Lose;
 
@@ -100,14 +109,17 @@ impl Play<(), Known> for Lose {
     ghost then = { Loses };
 }
 
-pub(crate) struct AsPass;
+/// A pass is split in two.
+pub(crate) struct AsPass<J: Share> {
+    share: PhantomData<J>,
+}
 
-impl Split<Known> for AsPass {
-    ghost use Rattle.sw_pass.specs.Steps.{passed};
+impl<J: Share> Split<Known> for AsPass<J> {
+    ghost use Rattle.sw_pass.specs.Steps.{parted, passed};
 
-    ghost left = { λ known. known };
+    ghost left = { parted J.passes };
 
-    ghost right = { passed };
+    ghost right = { passed J.passes };
 }
 
 pub(crate) struct AsNote;

@@ -50,7 +50,7 @@ fn draw_stamps<C: OfCluster>(rt: &impl Abort, alloc: Global, cluster: &Cluster) 
 {
     let name = Name::make(alloc, b"a", b"c", b"o")?;
     let (table, mut pass) = StampTable::<C>::new(alloc, count_devices(cluster)?)?;
-    let mut other = pass.split(&table);
+    let mut other = pass.split(&table, 1);
     expect_draw(rt, &table, &mut pass, &name, 5, Some(5))?;
     expect_draw(rt, &table, &mut other, &name, 3, Some(6))?;
     expect_draw(rt, &table, &mut pass, &name, 9, Some(9))
@@ -62,7 +62,7 @@ fn spend_stamps<C: OfCluster>(rt: &impl Abort, alloc: Global, cluster: &Cluster)
 {
     let name = Name::make(alloc, b"a", b"c", b"o")?;
     let (table, mut pass) = StampTable::<C>::new(alloc, count_devices(cluster)?)?;
-    let mut other = pass.split(&table);
+    let mut other = pass.split(&table, 1);
     let last = Stamp::GREATEST_UNITS;
     expect_draw(rt, &table, &mut pass, &name, last, Some(last))?;
     expect_draw(rt, &table, &mut other, &name, 5, None)?;
@@ -86,6 +86,9 @@ fn claim_and_lose<C: OfCluster>(
     assert!(rt; pass.note(&table).claim(&table, 1).is_ok());
     assert_eq!(rt; pass.loss_mark(&table), 0);
     node.join(&table, pass.note(&table));
+    if !node.may_lose(&table) {
+        return Err("there is no room for a loss".into());
+    }
     assert_eq!(rt; node.loss(&table), 0);
     assert_eq!(rt; pass.loss_mark(&table), 1);
     pass.join(&table, node.note(&table));

@@ -1,6 +1,6 @@
 //! The nodes of a cluster behind locks, over the links of one thread and of eight: disks in memory, with the built-in ring.
 
-ghost use Rattle.std.specs.Prelude.{◌≡◌, ◌≤◌, Contains, IfOk, IfSome, OnSome, Some, false};
+ghost use Rattle.std.specs.Prelude.{◌≡◌, ◌<◌, ◌≤◌, Contains, IfOk, IfSome, OnSome, Some, false};
 ghost use Rattle.std.specs.List.{All};
 ghost use Rattle.sw_disk.specs.Runs.{IfTold};
 ghost use Rattle.sw_memdisk.specs.Memory.{seen_of};
@@ -490,7 +490,8 @@ fn jobs_of<C: OfCluster>(
     table: &StampTable<C>,
     pass: &mut Pass<C>,
 ) -> Result<Vec<Job<C>>, Fail>
-    requires { pass.old.table ≡ table.now }
+    requires table { pass.old.table ≡ table.now }
+    requires passes { 8 < pass.old.known.passes }
     ensures table { pass.new.table ≡ pass.old.table }
     ensures jobs { IfOk result (λ jobs. All (λ job. job.pass.table ≡ table.now) jobs.items) }
 {
@@ -498,7 +499,7 @@ fn jobs_of<C: OfCluster>(
     for worker in 0..WORKERS {
         jobs.push(Job {
             worker,
-            pass: pass.split(table),
+            pass: pass.split(table, 1),
         })?;
     }
     Ok(jobs)
@@ -557,6 +558,7 @@ fn race<C: OfCluster + Send + Sync, J: Site + Send + Sync, R: Threads + Wait + S
 ) -> Result<(), Fail>
     requires cluster { cluster ≡ C.cluster }
     requires table { (table ≡ J.table) × (pass.table ≡ J.table) }
+    requires passes { 8 < pass.known.passes }
 {
     let disks = new_disks(alloc, &cluster, None)?;
     let Ok(cells) = Cells::<MemDisk, C, J>::new(alloc, cluster, table, &mut pass, disks) else {

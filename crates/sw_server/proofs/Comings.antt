@@ -1,10 +1,10 @@
 -- Connections that came through doors, and went back.
-use Rattle.std.proofs.Common.{◌≡◌, ℕ, suc, ◌+◌, ◌⊎◌, true, cond, is_some, List, [], ◌∷◌, ◌++◌, length, length-append, map, Contains, Option, Some, None, Result, Ok, Err, IfSome, inl, inr, refl, sym, ap, subst, ◌∙◌, arith, append-nil, append_assoc}
+use Rattle.std.proofs.Common.{◌≡◌, ℕ, suc, ◌+◌, ◌⊎◌, true, cond, is_some, List, [], ◌∷◌, ◌++◌, length, length-append, map, Contains, Option, Some, None, Ok, Err, IfSome, inl, inr, refl, sym, ap, subst, ◌∙◌, arith, append-nil, append_assoc}
 use Rattle.std.proofs.lemmas.List.Elements.{All-nil, All-push, All-weaker, Contains-append_right}
 use Rattle.std.specs.List.{All}
 use Rattle.sw_words.specs.Counts.{one_more}
 use Rattle.sw_diskfile.proofs.Lists.{Contains-first}
-use Rattle.sw_io.specs.Doors.{HandsOut, TakesBack, handed_after, with_done}
+use Rattle.sw_io.specs.Doors.{HandsOut, TakesBack, with_done}
 use Rattle.sw_pass.specs.declared.known.Known.{Known}
 use Rattle.sw_server.specs.Acceptor.{HasServed, IsCounting, faults_in}
 use Rattle.sw_server.specs.Served.{GoesOn, HasArrived, IsServed, Serving}

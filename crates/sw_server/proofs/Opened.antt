@@ -8,7 +8,7 @@ use Rattle.sw_server.specs.Acceptor.{faults_in}
 use Rattle.sw_server.specs.Closing.{Closes, closed_text}
 use Rattle.sw_server.specs.Ending.{IsStop}
 use Rattle.sw_server.specs.Served.{GoesOn, Serving}
-use Rattle.sw_server.specs.Sessions.{IsEnd, ServesOver, opened_at, ready_text, unopened_at}
+use Rattle.sw_server.specs.Sessions.{IsEnd, ServesOver, opened_at, ready_text}
 use Rattle.sw_server.specs.Visits.{DoorsMembers, DoorsSeen, seen_of}
 use Rattle.sw_server.specs.declared.acceptor.DoorsState.{DoorsState}
 use Rattle.sw_server.specs.declared.acceptor.DoorsState.TheVariants as doors_state
@@ -75,7 +75,7 @@ module _ {A N T : Type 0} (doors : DoorsMembers A N) (serving : Serving N T) (cl
           by : (end : ServeEnd) → Closes serving.cluster serving.tells serving.shows clock count known end last told → IsEnd doors serving clock port before end after known last (ready_text ++ told)
           by (Closed other) (ran, same, text) = (subst (λ (n : ℕ). IsStop doors serving (serving.shows clock) (opened_at port (seen before)) (stop.Ended n) after known) (sym same) ended, ran, ap (λ more. ready_text ++ more) text ∙ ap (λ (n : ℕ). ready_text ++ closed_text n) (sym same))
           by WriteFault (ran, proper) = inr (count, ended, ran, told, proper, refl)
-          by NoMemory (none, is_whole, ran) = (ap (λ more. ready_text ++ more) none ∙ append-nil ready_text, inr (count, ended, is_whole, ran))
+          by NoMemory (none, is_whole, wants, ran) = (ap (λ more. ready_text ++ more) none ∙ append-nil ready_text, inr (count, ended, is_whole, wants, ran))
           by DoorFault none = absurd none
           by ShelfFault none = absurd none
 

@@ -1,5 +1,5 @@
 -- Connections that were served, as a seat of the stamp table knows.
-use Rattle.std.specs.Prelude.{◌≡◌, ℕ, Bool, true, false, List, Option, Contains, IfSome}
+use Rattle.std.specs.Prelude.{◌≡◌, ℕ, Bool, true, List, Option, Contains, IfSome}
 use Rattle.sw_ring.specs.Cluster.{ClusterModel}
 use Rattle.sw_pass.specs.Known.{Covers}
 use Rattle.sw_pass.specs.Steps.{old_of}
@@ -20,10 +20,9 @@ pub record Serving (N T : Type 0) : Type 1 where
 abbrev pub HasArrived : (arrivals : Option (List Bytes)) → Bytes → Type 0
 HasArrived arrivals bytes = IfSome arrivals (λ all. Contains all bytes)
 
--- Another seat knows what a seat knew, unless it found that 2^63 seats were made.
-pub record GoesOn (known : Known) (before : Known) : Type 0 where
-  pub few : known.crowded ≡ false → before.crowded ≡ false
-  pub covers : known.crowded ≡ false → Covers known (old_of before)
+-- another seat knows what a seat knew
+abbrev pub GoesOn : (known before : Known) → Type 0
+GoesOn known before = Covers known (old_of before)
 
 module _ {N T : Type 0} (serving : Serving N T) (times : ℕ → Type 0) (arrivals : Option (List Bytes)) where
   -- A connection is as it may be left: one that was to come came as new, and was served to an end, by a clock that shows these times. What was known

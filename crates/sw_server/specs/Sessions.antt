@@ -2,14 +2,13 @@
 use Rattle.std.specs.Prelude.{◌≡◌, ◌≢◌, ◌⊎◌, ℕ, Bool, true, false, codes, List, [], ◌∷◌, ◌++◌, length, ⊤}
 use Rattle.std.specs.List.{All}
 use Rattle.sw_words.specs.Counts.{one_more}
-use Rattle.sw_ring.specs.Cluster.{ClusterModel}
 use Rattle.sw_shelf.specs.Shelf.{with_all}
 use Rattle.sw_pass.specs.declared.known.Known.{Known}
 use Rattle.sw_cell.specs.Learning.{HasLearnt}
 use Rattle.sw_cell.specs.Standing.{IsDiskOf}
 use Rattle.sw_serve.specs.Serving.{IsProperFront}
 use Rattle.sw_server.specs.Acceptor.{HasServed}
-use Rattle.sw_server.specs.Closing.{RunLast, closed_text}
+use Rattle.sw_server.specs.Closing.{RunOnce, closed_text}
 use Rattle.sw_server.specs.Ending.{IsStop}
 use Rattle.sw_server.specs.Served.{GoesOn, Serving}
 use Rattle.sw_server.specs.Shelving.{AreHanded, CameBack, ShelfMembers, with_faults}
@@ -61,22 +60,23 @@ module _ {A N T : Type 0} (doors : DoorsMembers A N) (serving : Serving N T) (cl
   abbrev pub IsUnvisited : (after : A) → (known : Known) → Type 0
   IsUnvisited after known = HasServed doors serving (serving.shows clock) began after Open 0 0 known
 
-  abbrev pub RunsLast : (is_whole none_wants : Bool) → (known last : Known) → Type 0
-  RunsLast is_whole none_wants known last = RunLast serving.cluster serving.tells serving.shows clock is_whole none_wants known last
+  -- the last passes ran
+  abbrev pub RunsLast : (is_whole wants : Bool) → (known last : Known) → Type 0
+  RunsLast is_whole wants known last = RunOnce serving.cluster serving.tells serving.shows clock is_whole wants known last
 
   -- The server ended like this; what the doors are, what was known as no other connection was served, and at last, and what was written.
   abbrev pub IsEnd : ServeEnd → (after : A) → (known last : Known) → (told : List ℕ) → Type 0
-  IsEnd (Closed count) after known last told = Stops (stop.Ended count) after known × RunsLast true true known last × (told ≡ ready_text ++ closed_text count)
+  IsEnd (Closed count) after known last told = Stops (stop.Ended count) after known × RunsLast true false known last × (told ≡ ready_text ++ closed_text count)
   IsEnd DoorFault after known last told =
       (last ≡ known)
       × (((doors.is_open after ≡ false) × (seen_of doors serving.conns after ≡ unopened_at port (seen_of doors serving.conns before)) × (told ≡ []))
       ⊎ (Stops stop.Failed after known × (told ≡ ready_text)))
   IsEnd WriteFault after known last told =
       ((last ≡ known) × IsUnvisited after known × IsProperFront told ready_text)
-      ⊎ ((count : ℕ) × Stops (stop.Ended count) after known × RunsLast true true known last × (front : List ℕ) × IsProperFront front (closed_text count) × (told ≡ ready_text ++ front))
+      ⊎ ((count : ℕ) × Stops (stop.Ended count) after known × RunsLast true false known last × (front : List ℕ) × IsProperFront front (closed_text count) × (told ≡ ready_text ++ front))
   IsEnd NoMemory after known last told =
       (told ≡ ready_text)
-      × (((last ≡ known) × Stops stop.NoMemory after known) ⊎ ((count : ℕ) × Stops (stop.Ended count) after known × (is_whole : Bool) × RunsLast is_whole false known last))
+      × (((last ≡ known) × Stops stop.NoMemory after known) ⊎ ((count : ℕ) × Stops (stop.Ended count) after known × (is_whole : Bool) × (wants : Bool) × RunsLast is_whole wants known last))
   IsEnd ShelfFault after known last told = ⊥
 
   -- Connections were served over nodes up to this end: what was known as no other one was served is known at last.
@@ -110,10 +110,10 @@ module _ {S D A N T : Type 0} (shelf : ShelfMembers S D) (doors : DoorsMembers A
     pub last : Known
     pub serves : ServesOver doors serving clock port before end after last told
     pub final : Known
-    pub learnt : final.crowded ≡ false → HasLearnt serving.cluster last final
+    pub learnt : HasLearnt serving.cluster last final
     pub back : List (ℕ × D)
     pub each : length back ≡ length serving.cluster.devices
-    pub disks : final.crowded ≡ false → All (λ one. IsDiskOf serving.cluster shelf.seen final one.0 one.1) back
+    pub disks : All (λ one. IsDiskOf serving.cluster shelf.seen final one.0 one.1) back
     pub returned : shelf.returned stock' ≡ with_all (shelf.returned stock) back
     pub faults : shelf.faults stock' ≡ with_faults shelf.seen (shelf.faults stock) back
     pub none_out : shelf.out stock' ≡ 0

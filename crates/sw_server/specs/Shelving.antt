@@ -1,5 +1,5 @@
 -- Disks that a shelf hands out for the devices of a cluster, and that go back.
-use Rattle.std.specs.Prelude.{◌≡◌, ◌⊎◌, ℕ, List, [], ◌∷◌, length, map, take, Option, Some, None, Result, Ok, ⊤}
+use Rattle.std.specs.Prelude.{◌≡◌, ◌⊎◌, ℕ, List, [], ◌∷◌, length, take, Option, Result, Ok}
 use Rattle.std.specs.List.{AllZip}
 use Rattle.sw_disk.specs.Runs.{Past, Seen}
 use Rattle.sw_ring.specs.Cluster.{ClusterModel}

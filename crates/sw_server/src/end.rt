@@ -5,7 +5,8 @@
 pub enum ServeEnd {
     /// So many connections came, and none comes any more.
     Closed { count: u64 },
-    /// Memory was wanted: while the disks were mounted, in the last passes, for the last line, or 2^64 - 1 connections came.
+    /// Memory was wanted: while the disks were mounted, in the last passes, for the last line, or 2^64 - 1 connections came, or fewer were back
+    /// than came.
     NoMemory,
     /// The output failed, and its count of faults rose.
     WriteFault,
@@ -22,6 +23,6 @@ pub(crate) enum Stop {
     Ended { count: u64 },
     /// The doors failed, and their count of faults rose.
     Failed,
-    /// As many came or went as can be counted.
+    /// As many came or went as can be counted, or fewer were back than came.
     NoMemory,
 }

@@ -40,35 +40,106 @@ impl Gate for NotingGate {
     }
 }
 
-/// A gate that holds worker 0 at its second connection until worker 1, which repairs, is about to send a message.
+/// The answers that worker 1, which repairs, has: until so many are there others may wait.
 #[derive(Drop)]
-pub(crate) struct RepairGate {
-    accepted: AtomicU64,
-    repairs: AtomicBool,
+pub(crate) struct Repairs {
+    least: u64,
+    answers: AtomicU64,
+    are_there: AtomicBool,
     pub(crate) gave_up: AtomicBool,
 }
 
-impl RepairGate {
-    pub(crate) fn new() -> RepairGate {
-        RepairGate {
-            accepted: AtomicU64::new(0),
-            repairs: AtomicBool::new(false),
+impl Repairs {
+    pub(crate) fn new(least: u64) -> Repairs {
+        Repairs {
+            least,
+            answers: AtomicU64::new(0),
+            are_there: AtomicBool::new(false),
             gave_up: AtomicBool::new(false),
+        }
+    }
+
+    /// Waits until they are there.
+    pub(crate) fn wait(&self) {
+        wait_for(&self.are_there, &self.gave_up);
+    }
+}
+
+impl Gate for Repairs {
+    fn at(&self, worker: u16, point: GatePoint) {
+        if worker != 1 || point != GatePoint::Answered {
+            return;
+        }
+        let answers = self
+            .answers
+            .fetch_add(1, Ordering::SeqCst)
+            .saturating_add(1);
+        if answers == self.least {
+            self.are_there.store(true, Ordering::SeqCst);
+        }
+    }
+}
+
+/// A gate that holds worker 0 at its second connection until worker 1, which repairs, has so many answers.
+#[derive(Drop)]
+pub(crate) struct RepairGate {
+    pub(crate) repairs: Repairs,
+    accepted: AtomicU64,
+}
+
+impl RepairGate {
+    pub(crate) fn new(least: u64) -> RepairGate {
+        RepairGate {
+            repairs: Repairs::new(least),
+            accepted: AtomicU64::new(0),
         }
     }
 }
 
 impl Gate for RepairGate {
     fn at(&self, worker: u16, point: GatePoint) {
-        match (worker, point) {
-            (0, GatePoint::Accepted) => {
-                if self.accepted.fetch_add(1, Ordering::SeqCst) == 1 {
-                    wait_for(&self.repairs, &self.gave_up);
-                }
+        self.repairs.at(worker, point);
+        if worker == 0 && point == GatePoint::Accepted {
+            if self.accepted.fetch_add(1, Ordering::SeqCst) == 1 {
+                self.repairs.wait();
             }
-            (1, GatePoint::BeforeMessage) => self.repairs.store(true, Ordering::SeqCst),
-            _ => {}
         }
+    }
+}
+
+/// A gate that holds each worker at its connection until so many have one.
+#[derive(Drop)]
+pub(crate) struct CrowdGate {
+    workers: u64,
+    accepted: AtomicU64,
+    are_there: AtomicBool,
+    pub(crate) gave_up: AtomicBool,
+}
+
+impl CrowdGate {
+    pub(crate) fn new(workers: u64) -> CrowdGate {
+        CrowdGate {
+            workers,
+            accepted: AtomicU64::new(0),
+            are_there: AtomicBool::new(false),
+            gave_up: AtomicBool::new(false),
+        }
+    }
+}
+
+impl Gate for CrowdGate {
+    fn at(&self, _worker: u16, point: GatePoint) {
+        if point != GatePoint::Accepted {
+            return;
+        }
+        let accepted = self
+            .accepted
+            .fetch_add(1, Ordering::SeqCst)
+            .saturating_add(1);
+        if accepted == self.workers {
+            self.are_there.store(true, Ordering::SeqCst);
+        }
+        wait_for(&self.are_there, &self.gave_up);
     }
 }
 

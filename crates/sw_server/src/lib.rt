@@ -20,4 +20,6 @@ pub use crate::serving::serve;
 #[cfg(test)]
 mod gates;
 #[cfg(test)]
+mod held_doors;
+#[cfg(test)]
 mod tests;

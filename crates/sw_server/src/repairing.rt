@@ -2,14 +2,13 @@
 
 ghost use Rattle.std.specs.Prelude.{◌≡◌};
 
-use crate::passing::pass_over_all;
+use crate::passing::pass_once;
 use crate::signal::EndSignal;
 use std::alloc::Global;
 use std::sync::Wait;
 use sw_cell::{Cells, Site};
 use sw_disk::Disk;
 use sw_io::{Clock, Gate};
-use sw_local::LocalLink;
 use sw_pass::{OfCluster, Pass};
 
 /// Runs a pass of each device behind ends of connections, several of which may share one, until these were all.
@@ -33,25 +32,8 @@ pub(crate) fn repair<D: Disk + Drop, T: Clock, G: Gate, C: OfCluster, J: Site, R
             return;
         }
         seen = ends.count;
-        pass = repair_once(rt, alloc, cells, pass, clock, gate, worker);
+        // A pass that wants memory ends there, and one behind a later end goes on.
+        let (known, _passed) = pass_once(rt, alloc, cells, pass, clock, gate, worker);
+        pass = known;
     }
-}
-
-// Runs a pass of each device, as far as there is memory.
-fn repair_once<D: Disk + Drop, T: Clock, G: Gate, C: OfCluster, J: Site, R: Wait>(
-    rt: &R,
-    alloc: Global,
-    cells: &Cells<D, C, J>,
-    pass: Pass<C>,
-    clock: &T,
-    gate: &G,
-    worker: u16,
-) -> Pass<C>
-    requires { pass.table ≡ J.table }
-    ensures { result.table ≡ J.table }
-{
-    let mut link = LocalLink::new(rt, alloc, cells, pass, clock, gate, worker, Vec::new(alloc));
-    // A pass that wants memory ends there, and one behind a later end goes on.
-    let _passed = pass_over_all(alloc, cells.cluster(), &mut link);
-    link.finish()
 }

@@ -1,11 +1,12 @@
 //! The server.
 
-ghost use Rattle.std.specs.Prelude.{◌≡◌, ◌≢◌, ◌≤◌, ℕ, List, [], length, true};
+ghost use Rattle.std.specs.Prelude.{◌≡◌, ◌≢◌, ◌+◌, ◌<◌, ◌≤◌, ℕ, List, [], length, true};
 ghost use Rattle.std.specs.Io.KnownBytes.{Appends};
 ghost use Rattle.sw_server.specs.Closing.{Closes};
 ghost use Rattle.sw_server.specs.Ending.{IsStop};
 ghost use Rattle.sw_server.specs.Served.{GoesOn};
 ghost use Rattle.sw_cell.specs.Mounting.{IsRefusal};
+ghost use Rattle.sw_pass.specs.Steps.{most_passes};
 ghost use Rattle.sw_server.specs.Sessions.{IsServer, IsUnready, ServesOver, after_doors, after_output, after_shelf};
 ghost use Rattle.sw_server.specs.Shelving.{AreHanded, CameBack};
 ghost use Rattle.sw_server.specs.Visits.{seen_of};
@@ -13,7 +14,7 @@ ghost use Rattle.sw_server.specs.Visits.{seen_of};
 use crate::acceptor::{Acceptor, Finished, Lent};
 use crate::end::{ServeEnd, Stop};
 use crate::opening::Opening;
-use crate::passing::pass_over_all;
+use crate::passing::pass_once;
 use crate::repairing::repair;
 use crate::shelving::{put_back, put_back_each, take_disks};
 use crate::signal::EndSignal;
@@ -25,7 +26,6 @@ use std::thread::{Threads, join};
 use sw_cell::{Cells, CellsFault, Site};
 use sw_disk::Disk;
 use sw_io::{Clock, Doors, Gate, Sink, write_all};
-use sw_local::LocalLink;
 use sw_pass::{OfCluster, Pass, StampTable};
 use sw_ring::{Cluster, Device};
 use sw_shelf::{Shelf, ShelfFault};
@@ -135,6 +135,7 @@ fn serve_table<
 ) -> ServeEnd
     requires cluster { cluster ≡ C.cluster }
     requires table { (table ≡ J.table) × (pass.table ≡ J.table) }
+    requires passes { pass.known.passes ≡ most_passes }
     requires ports { A.ports doors.old ≡ [] }
     requires out { F.out shelf.old ≡ 0 }
     requires workers { (1 ≤ workers) × (workers ≤ 16) }
@@ -210,6 +211,7 @@ fn serve_over<
     gate: &G,
 ) -> (Pass<C>, ServeEnd)
     requires table { pass.table ≡ J.table }
+    requires passes { workers + 2 < pass.known.passes }
     requires ports { A.ports doors.old ≡ [] }
     requires workers { (1 ≤ workers) × (workers ≤ 16) }
     ensures table { result.0.table ≡ J.table }
@@ -274,6 +276,7 @@ fn serve_doors<
 ) -> Finished<'a, A>
     requires table { pass.old.table ≡ J.table }
     requires workers { (1 ≤ workers) × (workers ≤ 16) }
+    requires passes { workers + 2 < pass.old.known.passes }
     requires borrow { lent.doors.ghost_name ≡ B.borrow }
     requires opened { A.is_open lent.doors.now ≡ true }
     requires began { B.began ≡ seen_of
@@ -290,9 +293,9 @@ fn serve_doors<
         B.times B.began result.stop result.doors.now pass.new.known }
 {
     let table = cells.table();
-    let seat = pass.split(table);
-    let first = pass.split(table);
-    let helper = pass.split(table);
+    let seat = pass.split(table, 1);
+    let first = pass.split(table, workers);
+    let helper = pass.split(table, 1);
     let acceptor = Mutex::new(Acceptor::<A, T, C, J, B>::new(lent, seat));
     let signal = EndSignal::new();
     join(
@@ -301,7 +304,7 @@ fn serve_doors<
             requires { helper.table ≡ J.table }
         { repair(rt, alloc, cells, helper, &signal, clock, gate, workers) },
         || -> ()
-            requires { (first.table ≡ J.table) × (B.tells ≡ D.tells) × ((time : ℕ) → T.shows clock.now time → B.times time) × (workers ≤ 16) }
+            requires { (first.table ≡ J.table) × (workers ≤ first.known.passes) × (B.tells ≡ D.tells) × ((time : ℕ) → T.shows clock.now time → B.times time) × (workers ≤ 16) }
         {
             work_all(
                 rt, alloc, cells, first, &acceptor, &signal, clock, gate, 0, workers,
@@ -331,14 +334,8 @@ fn close<O: Sink, D: Disk + Drop, T: Clock, G: Gate, C: OfCluster, J: Site, R: W
     ensures goes_on { GoesOn result.0.known pass.known }
     ensures output { O.faults output.new ≡ after_output result.1 (O.faults output.old) }
 {
-    let mut link = LocalLink::new(rt, alloc, cells, pass, clock, gate, worker, Vec::new(alloc));
-    let passed = pass_over_all(alloc, cells.cluster(), &mut link);
-    let wants = link.wants();
-    let pass = link.finish();
+    let (pass, passed) = pass_once(rt, alloc, cells, pass, clock, gate, worker);
     if passed.is_err() {
-        return (pass, ServeEnd::NoMemory);
-    }
-    if wants {
         return (pass, ServeEnd::NoMemory);
     }
     let Ok(line) = format!(in alloc; "closed {count}\n") else {

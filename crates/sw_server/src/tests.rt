@@ -2,7 +2,8 @@
 
 ghost use Rattle.std.specs.Prelude.{◌≡◌, ◌≤◌, [], IfOk, ⊤};
 
-use crate::gates::{NotingGate, RaceGate, RepairGate};
+use crate::gates::{CrowdGate, NotingGate, RaceGate, RepairGate, Repairs};
+use crate::held_doors::HeldDoors;
 use crate::{ServeEnd, serve};
 use std::alloc::Global;
 use std::process::Abort;
@@ -25,6 +26,17 @@ const GET: &str = "GET /v1/AUTH_test/photos/cat.jpg HTTP/1.1\r\nHost: h\r\n\r\n"
 
 // Where the object is on each disk.
 const FOLDER: &str = "objects/0/ac8/f20f04443ba5bd7cadc1156a167f4ac8";
+
+// What the disks have there once each fragment is at its primary.
+const REPAIRED: [Option<&str>; 4] = [
+    Some("1000000000.00000#0#d.data"),
+    Some("1000000000.00000#1#d.data"),
+    Some("1000000000.00000#2#d.data"),
+    None,
+];
+
+// So many messages the passes of the four devices send where one fragment is at a handoff.
+const REPAIRS: u64 = 28;
 
 // What fails: the output and the doors, behind so many writes and calls; the disk of a device, which is refused, or one of whose
 // calls is.
@@ -73,7 +85,7 @@ impl Clock for TickingClock {
 fn serve_requests<T: Clock + Send + Sync, G: Gate + Sync, R: Threads + Wait + Sync>(
     rt: &R,
     alloc: Global,
-    requests: [&str; 2],
+    requests: &[&str],
     workers: u16,
     failing: Failing,
     clock: &T,
@@ -84,7 +96,7 @@ fn serve_requests<T: Clock + Send + Sync, G: Gate + Sync, R: Threads + Wait + Sy
     let cluster = Cluster::read(alloc, built_in())?;
     let mut output = MemSink::new(alloc);
     let mut shelf = MemShelf::new(alloc);
-    let mut doors = two_doors(alloc, requests)?;
+    let mut doors = doors_for(alloc, requests)?;
     output.fuse(failing.writes);
     doors.fuse(failing.calls);
     shelf.refuse(failing.refused);
@@ -111,13 +123,14 @@ fn serve_requests<T: Clock + Send + Sync, G: Gate + Sync, R: Threads + Wait + Sy
 }
 
 // Doors through which a connection with each request comes.
-fn two_doors(alloc: Global, requests: [&str; 2]) -> Result<MemDoors, Fail>
+fn doors_for(alloc: Global, requests: &[&str]) -> Result<MemDoors, Fail>
     ensures { IfOk result (λ doors. doors.ports ≡ []) }
 {
-    let [first, second] = requests;
-    let first = MemConn::new(alloc, first.as_bytes().to_vec(alloc)?);
-    let second = MemConn::new(alloc, second.as_bytes().to_vec(alloc)?);
-    Ok(MemDoors::new(alloc, vec![in alloc; first, second]?)?)
+    let mut conns = Vec::new(alloc);
+    for request in requests {
+        conns.push(MemConn::new(alloc, request.as_bytes().to_vec(alloc)?))?;
+    }
+    Ok(MemDoors::new(alloc, conns)?)
 }
 
 // The time at which a run begins.
@@ -135,7 +148,7 @@ fn expect_served<R: Threads + Wait + Sync + Abort>(
     back: (usize, usize),
 ) -> Result<(), Fail> {
     let clock = MemClock::new(beginning()?);
-    let served = serve_requests(rt, alloc, [PUT, GET], 1, failing, &clock, &OpenGate)?;
+    let served = serve_requests(rt, alloc, &[PUT, GET], 1, failing, &clock, &OpenGate)?;
     assert_eq!(rt; served.end, end, "with {failing:?}");
     assert_eq!(rt; served.output.bytes(), text.as_bytes(), "with {failing:?}");
     assert_eq!(rt;
@@ -212,7 +225,8 @@ fn serves_up_to_the_last_connection_or_a_failure(rt: HostRuntime) -> Result<(), 
 fn expect_files(rt: &impl Abort, served: &Served, names: [Option<&str>; 4]) {
     let disks = served.shelf.returned();
     assert_eq!(rt; disks.len(), 4);
-    for ((_, disk), name) in disks.iter().zip(names) {
+    for ((number, (device, disk)), name) in (0..4u16).zip(disks.iter()).zip(names) {
+        assert_eq!(rt; *device, number);
         assert_eq!(rt; disk.name_at(FOLDER, 0), name);
         assert_eq!(rt; disk.name_at(FOLDER, 1), None);
     }
@@ -226,15 +240,26 @@ fn repairs_at_last(rt: HostRuntime) -> Result<(), Fail> {
         ..NOTHING
     };
     let clock = MemClock::new(beginning()?);
-    let served = serve_requests(&rt, rt.alloc(), [PUT, ""], 1, failing, &clock, &OpenGate)?;
+    let served = serve_requests(&rt, rt.alloc(), &[PUT, ""], 1, failing, &clock, &OpenGate)?;
     assert_eq!(&rt; served.end, ServeEnd::Closed { count: 2 });
-    let names = [
-        Some("1000000000.00000#0#d.data"),
-        Some("1000000000.00000#1#d.data"),
-        Some("1000000000.00000#2#d.data"),
-        None,
-    ];
-    expect_files(&rt, &served, names);
+    expect_files(&rt, &served, REPAIRED);
+    Ok(())
+}
+
+// The doors fail, so that there is no last pass: a pass behind the first connection brought the fragment home while the second one was held.
+#[test]
+fn repairs_without_a_last_pass(rt: HostRuntime) -> Result<(), Fail> {
+    let failing = Failing {
+        calls: 3,
+        broken: (1, 3),
+        ..NOTHING
+    };
+    let clock = MemClock::new(beginning()?);
+    let gate = RepairGate::new(REPAIRS);
+    let served = serve_requests(&rt, rt.alloc(), &[PUT, ""], 1, failing, &clock, &gate)?;
+    assert!(&rt; !gate.repairs.gave_up.load(Ordering::SeqCst));
+    assert_eq!(&rt; served.end, ServeEnd::DoorFault);
+    expect_files(&rt, &served, REPAIRED);
     Ok(())
 }
 
@@ -242,11 +267,36 @@ fn repairs_at_last(rt: HostRuntime) -> Result<(), Fail> {
 #[test]
 fn repairs_beside_connections(rt: HostRuntime) -> Result<(), Fail> {
     let clock = MemClock::new(beginning()?);
-    let gate = RepairGate::new();
-    let served = serve_requests(&rt, rt.alloc(), [PUT, PUT], 1, NOTHING, &clock, &gate)?;
-    assert!(&rt; !gate.gave_up.load(Ordering::SeqCst));
+    let gate = RepairGate::new(1);
+    let served = serve_requests(&rt, rt.alloc(), &[PUT, PUT], 1, NOTHING, &clock, &gate)?;
+    assert!(&rt; !gate.repairs.gave_up.load(Ordering::SeqCst));
     assert_eq!(&rt; served.end, ServeEnd::Closed { count: 2 });
     assert_eq!(&rt; served.output.bytes(), "ready\nclosed 2\n".as_bytes());
+    Ok(())
+}
+
+// A worker tells of an end before it asks for another connection: the doors answer once a pass behind it sent a message.
+#[test]
+fn tells_of_an_end_before_it_asks(rt: HostRuntime) -> Result<(), Fail> {
+    let alloc = rt.alloc();
+    let clock = MemClock::new(beginning()?);
+    let repairs = Repairs::new(1);
+    let mut doors = HeldDoors::new(doors_for(alloc, &[PUT])?, &repairs);
+    let end = serve(
+        &rt,
+        alloc,
+        Cluster::read(alloc, built_in())?,
+        8080,
+        1,
+        &mut MemSink::new(alloc),
+        &mut MemShelf::new(alloc),
+        &mut doors,
+        &clock,
+        &repairs,
+    );
+    assert!(&rt; !repairs.gave_up.load(Ordering::SeqCst));
+    assert_eq!(&rt; end, ServeEnd::Closed { count: 1 });
+    assert_eq!(&rt; doors.doors.back().len(), 1);
     Ok(())
 }
 
@@ -254,7 +304,7 @@ fn repairs_beside_connections(rt: HostRuntime) -> Result<(), Fail> {
 fn race<R: Threads + Wait + Sync + Abort>(
     rt: &R,
     alloc: Global,
-    requests: [&str; 2],
+    requests: &[&str],
 ) -> Result<Served, Fail> {
     let clock = MemClock::new(beginning()?);
     let gate = RaceGate::new();
@@ -277,7 +327,7 @@ fn expect_one(rt: &impl Abort, served: &Served, want: &str) {
 // No lock is held round a whole request: both are answered.
 #[test]
 fn serves_two_connections_at_once(rt: HostRuntime) -> Result<(), Fail> {
-    let served = race(&rt, rt.alloc(), [PUT, OTHER])?;
+    let served = race(&rt, rt.alloc(), &[PUT, OTHER])?;
     let created =
         "HTTP/1.1 201 Created\r\nContent-Length: 0\r\nETag: 900150983cd24fb0d6963f7d28e17f72\r\nX-Timestamp: 1000000000.0000";
     for stamp in ["0", "1"] {
@@ -290,7 +340,7 @@ fn serves_two_connections_at_once(rt: HostRuntime) -> Result<(), Fail> {
 // Of two puts of one name the one that drew first is overtaken.
 #[test]
 fn a_put_is_overtaken(rt: HostRuntime) -> Result<(), Fail> {
-    let served = race(&rt, rt.alloc(), [PUT, PUT])?;
+    let served = race(&rt, rt.alloc(), &[PUT, PUT])?;
     expect_one(
         &rt,
         &served,
@@ -320,7 +370,7 @@ fn looks_at_the_clock_and_passes_the_gate(rt: HostRuntime) -> Result<(), Fail> {
         next: AtomicU64::new(start.units()),
     };
     let gate = NotingGate::new();
-    let served = serve_requests(&rt, rt.alloc(), [PUT, PUT], 1, NOTHING, &clock, &gate)?;
+    let served = serve_requests(&rt, rt.alloc(), &[PUT, PUT], 1, NOTHING, &clock, &gate)?;
     let stamps = ["1000000000.00000", "1000000001.00000"];
     assert_eq!(&rt; served.doors.back().len(), 2);
     for (conn, stamp) in served.doors.back().iter().zip(stamps) {
@@ -341,7 +391,7 @@ fn more_workers_than_connections(rt: HostRuntime) -> Result<(), Fail> {
     let served = serve_requests(
         &rt,
         rt.alloc(),
-        [PUT, OTHER],
+        &[PUT, OTHER],
         16,
         NOTHING,
         &clock,
@@ -349,5 +399,17 @@ fn more_workers_than_connections(rt: HostRuntime) -> Result<(), Fail> {
     )?;
     assert_eq!(&rt; served.end, ServeEnd::Closed { count: 2 });
     assert_eq!(&rt; served.doors.back().len(), 2);
+    Ok(())
+}
+
+// Each of sixteen workers has a connection while all others have one.
+#[test]
+fn sixteen_workers_at_once(rt: HostRuntime) -> Result<(), Fail> {
+    let clock = MemClock::new(beginning()?);
+    let gate = CrowdGate::new(16);
+    let requests = [GET; 16];
+    let served = serve_requests(&rt, rt.alloc(), &requests, 16, NOTHING, &clock, &gate)?;
+    assert!(&rt; !gate.gave_up.load(Ordering::SeqCst));
+    assert_eq!(&rt; served.end, ServeEnd::Closed { count: 16 });
     Ok(())
 }

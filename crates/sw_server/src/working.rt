@@ -1,6 +1,6 @@
 //! Workers that serve connections, side by side.
 
-ghost use Rattle.std.specs.Prelude.{◌≡◌, ◌<◌, ◌+◌, ◌^◌, ℕ, IfSome};
+ghost use Rattle.std.specs.Prelude.{◌≡◌, ◌<◌, ◌≤◌, ◌+◌, ◌^◌, ℕ, IfSome};
 ghost use Rattle.sw_server.specs.Served.{HasArrived, IsServed};
 ghost use Rattle.sw_server.specs.Visits.{IsFresh};
 
@@ -44,6 +44,7 @@ pub(crate) fn work_all<
     requires tells { B.tells ≡ D.tells }
     requires times { (time : ℕ) → T.shows clock.now time → B.times time }
     requires numbers { first + count < 2 ^ 16 }
+    requires passes { count ≤ pass.known.passes }
 {
     if count <= 1 {
         work(rt, alloc, cells, pass, acceptor, signal, clock, gate, first);
@@ -53,16 +54,16 @@ pub(crate) fn work_all<
     let high = count - low;
     let next = first + low;
     let mut pass = pass;
-    let other = pass.split(cells.table());
+    let other = pass.split(cells.table(), high);
     let back = move || -> ()
-        requires { (other.table ≡ J.table) × (B.tells ≡ D.tells) × ((time : ℕ) → T.shows clock.now time → B.times time) × (next + high < 2 ^ 16) }
+        requires { (other.table ≡ J.table) × (high ≤ other.known.passes) × (B.tells ≡ D.tells) × ((time : ℕ) → T.shows clock.now time → B.times time) × (next + high < 2 ^ 16) }
     {
         work_all(
             rt, alloc, cells, other, acceptor, signal, clock, gate, next, high,
         )
     };
     let front = move || -> ()
-        requires { (pass.table ≡ J.table) × (B.tells ≡ D.tells) × ((time : ℕ) → T.shows clock.now time → B.times time) × (first + low < 2 ^ 16) }
+        requires { (pass.table ≡ J.table) × (low ≤ pass.known.passes) × (B.tells ≡ D.tells) × ((time : ℕ) → T.shows clock.now time → B.times time) × (first + low < 2 ^ 16) }
     {
         work_all(
             rt, alloc, cells, pass, acceptor, signal, clock, gate, first, low,

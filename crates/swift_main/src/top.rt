@@ -31,9 +31,9 @@ use sw_types::NoMemory;
 ///
 /// `serve` reads the ring, which is the whole input, and serves its cluster over a disk of the shelf for each device by 1 to 16 workers side by side,
 /// until no connection comes through the doors any more. Each connection that was taken back had the responses to the requests in the bytes that
-/// came, over the nodes as they then stood, and one closed account of all that happened at the devices shows it: each object that was answered is one put's, decoded
-/// from k archives of one durable stamp, and each connection is shown what it put itself, or something newer, while few disks are lost. All disks go
-/// back, unless memory was wanted before `ready`.
+/// came, over the nodes as they then stood. Over disks that tell what they hold one closed account of all that happened at the devices shows it:
+/// each object that was answered is one put's, decoded from k archives of one durable stamp, and each connection is shown what it put itself, or
+/// something newer, or was overtaken, while few disks are lost. All disks go back, unless memory was wanted before `ready`.
 ///
 /// Of words that are no command the usage is written, or a front of it, and nothing is read; 1 is for these alone. Whatever source, sink, shelf and doors tell, all of
 /// this holds of what they do.

@@ -1,4 +1,4 @@
-use Rattle.std.proofs.Common.{◌≡◌, ◌+◌, ◌++◌, ℕ, false, get_or, List, [], ◌∷◌, length, sym, ap, subst, ◌∙◌, arith, append-nil, length-append}
+use Rattle.std.proofs.Common.{◌≡◌, ◌+◌, ◌++◌, ℕ, get_or, List, [], ◌∷◌, length, sym, ap, subst, ◌∙◌, arith, append-nil, length-append}
 use Rattle.sw_ring.specs.Cluster.{ClusterModel}
 use Rattle.sw_ring.specs.declared.device.Device.{Device}
 use Rattle.sw_pass.specs.Steps.{old_of}
@@ -15,7 +15,7 @@ use Rattle.sw_cell.proofs.cells.+close_each.Goals as goal
 pub returns-in_default-clause-each : goal.returns-in_default-clause-each
 returns-in_default-clause-each g t c =
     let none : 0 ≡ length c.args.locks.now.items = omega (arith, c.in_default.ensures.cases.0, c.args.locks.now.ok.0) in
-    ([], sym (append-nil c.args.disks.now.items), none, λ few. no_disks g.C.OfCluster.cluster g.D.Disk.seen c.args.pass.now.known)
+    ([], sym (append-nil c.args.disks.now.items), none, no_disks g.C.OfCluster.cluster g.D.Disk.seen c.args.pass.now.known)
 
 -- ---- where one is
 
@@ -26,8 +26,8 @@ close_each-requires g t c κs within =
 
 pub close-requires-clause-told : goal.close-requires-clause-told
 close-requires-clause-told g t c =
-    let told : c.tell.new.pass.known.crowded ≡ false → Covers c.tell.new.pass.known (old_of c.tell.new.self.known) = λ few.
-    subst (λ (one : LockedModel g.row.D.Denot). Covers c.tell.new.pass.known (old_of one.known)) (sym c.tell.ensures.same) (c.tell.ensures.told few) in
+    let told : Covers c.tell.new.pass.known (old_of c.tell.new.self.known) =
+    subst (λ (one : LockedModel g.row.D.Denot). Covers c.tell.new.pass.known (old_of one.known)) (sym c.tell.ensures.same) c.tell.ensures.told in
     told_still (old_of c.tell.new.self.known) c.tell.new.pass.known c.close_each.new.pass.known told c.close_each.ensures.grown
 
 pub unwrap-requires : goal.unwrap-requires
@@ -36,12 +36,12 @@ unwrap-requires g t c =
     c.push.ensures.succeeds (omega (arith, c.in-Some.ensures.cases, c.args.locks.now.ok.0, c.pop.new.self.ok.0, more, c.close_each.ensures.each.2, c.close_each.new.disks.ok.0, c.close_each.ensures.room, c.requires.room))
 
 pub returns-clause-grown : goal.returns-clause-grown
-returns-clause-grown g t c = λ few.
-    (learnt_last g.C.OfCluster.cluster c.args.pass.now.known c.tell.new.pass.known c.close_each.new.pass.known c.close.new.pass.known c.tell.ensures.learnt c.close_each.ensures.grown c.close.ensures.learnt few).grown
+returns-clause-grown g t c =
+    (learnt_last g.C.OfCluster.cluster c.args.pass.now.known c.tell.new.pass.known c.close_each.new.pass.known c.close.new.pass.known c.tell.ensures.learnt c.close_each.ensures.grown c.close.ensures.learnt).grown
 
 pub returns-clause-learnt : goal.returns-clause-learnt
-returns-clause-learnt g t c = λ few some.
-    learnt_last g.C.OfCluster.cluster c.args.pass.now.known c.tell.new.pass.known c.close_each.new.pass.known c.close.new.pass.known c.tell.ensures.learnt c.close_each.ensures.grown c.close.ensures.learnt few
+returns-clause-learnt g t c = λ some.
+    learnt_last g.C.OfCluster.cluster c.args.pass.now.known c.tell.new.pass.known c.close_each.new.pass.known c.close.new.pass.known c.tell.ensures.learnt c.close_each.ensures.grown c.close.ensures.learnt
 
 pub returns-clause-each : goal.returns-clause-each
 returns-clause-each g t c =
@@ -57,6 +57,6 @@ returns-clause-each g t c =
       others.0 ++ (device, c.close.result) ∷ [],
       added_twice c.args.disks.now.items c.close_each.new.disks.items c.push.new.self.items others.0 (device, c.close.result) others.1 pushed,
       omega (arith, one, others.2, c.in-Some.ensures.cases, c.args.locks.now.ok.0, c.pop.new.self.ok.0),
-      λ few. disks_more cluster g.D.Disk.seen c.close_each.new.pass.known c.close.new.pass.known (c.close.ensures.same few) others.0 device c.close.result (others.3 (c.close.ensures.learnt few).grown.few)
-          (subst (λ (id : ℕ). IsDiskOf cluster g.D.Disk.seen c.close.new.pass.known id c.close.result) same (c.close.ensures.disk few)),
+      disks_more cluster g.D.Disk.seen c.close_each.new.pass.known c.close.new.pass.known c.close.ensures.same others.0 device c.close.result others.3
+          (subst (λ (id : ℕ). IsDiskOf cluster g.D.Disk.seen c.close.new.pass.known id c.close.result) same c.close.ensures.disk),
     )

@@ -1,4 +1,4 @@
-use Rattle.std.proofs.Common.{◌≡◌, ◌<◌, ◌∙◌, arith, List, length, subst, sym, refl, true, false, Bool, is_ok}
+use Rattle.std.proofs.Common.{◌∙◌, arith, List, subst, sym, refl, true, false, Bool}
 use Rattle.sw_ring.specs.Cluster.{ids_of}
 use Rattle.sw_ring.specs.Rules.{device_ids}
 use Rattle.sw_ring.specs.declared.device.Device.{Device}

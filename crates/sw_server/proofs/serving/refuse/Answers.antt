@@ -1,4 +1,4 @@
-use Rattle.std.proofs.Common.{◌≡◌, ◌≤◌, ℕ, List, Vec, Global, inr, length, refl, sym, ap, subst, arith, ◌∙◌}
+use Rattle.std.proofs.Common.{◌≡◌, ℕ, List, Vec, Global, inr, length, sym, ap, subst, arith, ◌∙◌}
 use Rattle.sw_ring.specs.declared.device.Device.{Device}
 use Rattle.sw_shelf.specs.Shelf.{with_all}
 use Rattle.sw_cell.specs.Mounting.{FailsAt, IsRefusal}

@@ -1,8 +1,8 @@
-use Rattle.std.proofs.Common.{◌≡◌, [], rules, refl, ◌∙◌}
+use Rattle.std.proofs.Common.{◌≡◌, [], rules, refl}
 use Rattle.std.proofs.KnownBytes.{Appends-nil, Appends-trans}
 use Rattle.sw_server.specs.Served.{Serving}
 use Rattle.sw_server.specs.Visits.{DoorsMembers}
-use Rattle.sw_server.proofs.Opened.{closed, failed, failed_once, full, of_error, of_success, quiet_ended, quiet_full, unopened, unwritten}
+use Rattle.sw_server.proofs.Opened.{closed, full, of_error, of_success, quiet_full, unopened, unwritten}
 use Rattle.sw_server.proofs.serving.serve_over.Given.{Over}
 use Rattle.sw_server.proofs.serving.serve_over.Goals as goal
 

@@ -1,4 +1,4 @@
-use Rattle.std.proofs.Common.{◌≡◌, [], Err, List, inl, inr, refl, sym, ap, subst, rules, ◌∙◌}
+use Rattle.std.proofs.Common.{[], Err, inl, inr, refl, ap, subst, ◌∙◌}
 use Rattle.std.proofs.KnownBytes.{Appends-nil}
 use Rattle.sw_ring.specs.Cluster.{ClusterModel}
 use Rattle.sw_shelf.specs.Shelf.{with_all}

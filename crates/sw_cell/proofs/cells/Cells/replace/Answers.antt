@@ -1,4 +1,4 @@
-use Rattle.std.proofs.Common.{◌≡◌, ℕ, false, sym, subst, ◌∙◌}
+use Rattle.std.proofs.Common.{ℕ, sym, subst, ◌∙◌}
 use Rattle.std.specs.Prelude.{IfOk}
 use Rattle.sw_pass.specs.Known.{HasSlot}
 use Rattle.sw_cell.specs.Standing.{IsReplaced}
@@ -19,5 +19,5 @@ returns-then-from-slot-clause-replaced g c =
     let cluster = g.C.OfCluster.cluster in
     let slot = told_slot _ _ _ _ _ _ c.deref_mut.ensures.value c.deref.ensures c.position.ensures.value c.from.ensures c.if-from-slot.true in
     let same = is_slot cluster _ _ _ _ c.devices.ensures.listed c.self.invariant.1 c.slot_among.ensures _ c.unwrap-slot.ensures c.devices.ensures.rules in
-    subst (λ (place : ℕ). IfOk c.replace.result (λ lost. c.replace.new.pass.known.crowded ≡ false → IsReplaced cluster g.D.Disk.seen c.args.device place c.args.pass.now.known c.replace.new.pass.known lost)) (slot ∙ sym same)
+    subst (λ (place : ℕ). IfOk c.replace.result (λ lost. IsReplaced cluster g.D.Disk.seen c.args.device place c.args.pass.now.known c.replace.new.pass.known lost)) (slot ∙ sym same)
     c.replace.ensures.replaced

@@ -23,12 +23,12 @@ handle-reply-requires-clause-may g c =
     c.join.ensures.learnt c.requires.warranted)
 
 pub returns-clause-called : goal.returns-clause-called
-returns-clause-called g c = λ few.
+returns-clause-called g c =
     let same : c.note-warrant.new.self.known ≡ c.args.pass.now.known = ap (λ (pass : Held). pass.known) c.note-warrant.ensures.same in
     let slot : c.join.new.self.slot ≡ c.args.self.now.slot = c.join.ensures.table.1 ∙ ap (λ (one : LockedModel g.row.D.Denot). one.slot) c.self.view_is in
     let left : c.note.result.known ≡ noted c.handle-reply.new.self.known = c.note.ensures.known ∙ ap (λ (one : LockedModel g.row.D.Denot). noted one.known) c.self-2.view_is in
     let is = called g.C.OfCluster.cluster g.D.Disk.tells c.join.new.self.slot c.args.msg.now c.handle-reply.result c.note-warrant.new.self.known c.self.inside.seat.known c.join.new.self.known c.handle-reply.new.self.known c.join-2.new.self.known c.note-warrant.result.known
-    c.note.result.known (c.note-warrant.ensures.known ∙ ap noted (sym same)) c.join.ensures.known c.join.ensures.learnt c.handle-reply.ensures.added (replied_so g.D.Disk.tells c.args.msg.now c.handle-reply.result _ _ _ c.handle-reply.ensures.replied) left c.join-2.ensures.known c.join-2.ensures.learnt few in
+    c.note.result.known (c.note-warrant.ensures.known ∙ ap noted (sym same)) c.join.ensures.known c.join.ensures.learnt c.handle-reply.ensures.added (replied_so g.D.Disk.tells c.args.msg.now c.handle-reply.result _ _ _ c.handle-reply.ensures.replied) left c.join-2.ensures.known c.join-2.ensures.learnt in
     subst (λ (pass : Known). IsCalled g.C.OfCluster.cluster g.D.Disk.tells c.args.self.now.slot c.args.msg.now c.handle-reply.result pass c.join-2.new.self.known) same
     (subst (λ (place : ℕ). IsCalled g.C.OfCluster.cluster g.D.Disk.tells place c.args.msg.now c.handle-reply.result c.note-warrant.new.self.known c.join-2.new.self.known) slot is)
 

@@ -9,13 +9,13 @@ use Rattle.sw_cell.proofs.Remounting.{memory_found, memory_wanted, remount_may, 
 use Rattle.sw_cell.proofs.locked.Locked.remount.Goals as goal
 
 pub add_mount-requires-clause-may : goal.add_mount-requires-clause-may
-add_mount-requires-clause-may g c = λ few.
+add_mount-requires-clause-may g c =
     let remount = c.remount-mounted in
     let all = remount_of g.D.Disk.seen g.D.Disk.left_since g.D.Disk.tells _ _ _ _ _ remount.result remount.new.self c.is_err-self-inside.result g.met.D.Disk.telling
     c.requires.cluster c.self.view_is c.requires.due c.self.invariant remount.ensures.node remount.ensures.remounts c.is_err-self-inside.ensures.value in
     let some = memory_found _ _ remount.result c.ne.result c.ne.ensures c.if-ne.true refl in
     let may = subst (λ locked. MayHandle g.C.OfCluster.cluster g.D.Disk.tells locked.slot c.args.msg.now locked.known) (sym c.self.view_is) c.requires.may in
-    remount_may all c.args.msg.now some may few c.requires.place
+    remount_may all c.args.msg.now some may c.requires.place
 
 pub invariant_of-self : goal.invariant_of-self
 invariant_of-self g c =

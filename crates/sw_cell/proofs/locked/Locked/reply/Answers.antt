@@ -10,7 +10,7 @@ use Rattle.sw_cell.proofs.locked.Locked.reply.Goals as goal
 use Rattle.sw_cell.proofs.locked.Locked.reply.Goals.{in-DiskFault, in-NoMemory, in_default, in_default-matches}
 
 pub add_reply-requires-clause-may : goal.add_reply-requires-clause-may
-add_reply-requires-clause-may g c = λ few.
+add_reply-requires-clause-may g c =
     let handle = c.handle-reply in
     let all = reply_of g.D.Disk.seen g.D.Disk.left_since g.D.Disk.tells _ _ _ _ _ c.args.msg.now handle.result handle.new.self g.met.D.Disk.telling
     c.requires.cluster c.self.view_is c.requires.mounted c.self.invariant c.requires.place c.requires.may handle.ensures.node handle.ensures.handles in
@@ -19,7 +19,7 @@ add_reply-requires-clause-may g c = λ few.
       | in_default-matches w ↦ inr (w.in_default-matches.not-NoMemory, w.matches-is)
     ] in
     let some = other_kind NoMemory handle.result c.match-matches-2.matches wanted c.if-not-matches.true in
-    reply_may all some few
+    reply_may all some
 
 pub invariant_of-self : goal.invariant_of-self
 invariant_of-self g c =

@@ -1,4 +1,4 @@
-use Rattle.std.proofs.Common.{◌≡◌, ℕ, ◌≤◌, true, subst, sym, ◌∙◌}
+use Rattle.std.proofs.Common.{ℕ, ◌≤◌, subst, sym, ◌∙◌}
 use Rattle.std.specs.Prelude.{option_copied}
 use Rattle.sw_types.specs.Stamp.{greatest_stamp}
 use Rattle.sw_message.specs.Running.{StillTells}
@@ -39,7 +39,7 @@ returns-in-Ok-clause-draws g c = (
 pub returns-in-Ok-clause-tells : goal.returns-in-Ok-clause-tells
 returns-in-Ok-clause-tells g c =
     let after : Known = c.draw.new.self.known in
-    subst (λ (it : LocalModel g.row.T.Denot). StillTells (after.crowded ≡ true) (told_by g.C.OfCluster.cluster g.D.Disk.tells it.known.crowded it.known) (told_by g.C.OfCluster.cluster g.D.Disk.tells after.crowded after))
+    subst (λ (it : LocalModel g.row.T.Denot). StillTells ⊥ (told_by g.C.OfCluster.cluster g.D.Disk.tells it.known) (told_by g.C.OfCluster.cluster g.D.Disk.tells after))
     c.self.view_is (tells_drawn (drawn g c) g.D.Disk.tells)
 
 pub returns-in-Ok-clause-learns : goal.returns-in-Ok-clause-learns
@@ -73,5 +73,5 @@ returns-in-Err-clause-draws g c = (
 pub returns-in-Err-clause-tells : goal.returns-in-Err-clause-tells
 returns-in-Err-clause-tells g c =
     let after : Known = c.draw.new.self.known in
-    subst (λ (it : LocalModel g.row.T.Denot). StillTells (after.crowded ≡ true) (told_by g.C.OfCluster.cluster g.D.Disk.tells it.known.crowded it.known) (told_by g.C.OfCluster.cluster g.D.Disk.tells after.crowded after))
+    subst (λ (it : LocalModel g.row.T.Denot). StillTells ⊥ (told_by g.C.OfCluster.cluster g.D.Disk.tells it.known) (told_by g.C.OfCluster.cluster g.D.Disk.tells after))
     c.self.view_is (tells_spent (spent g c) g.D.Disk.tells)

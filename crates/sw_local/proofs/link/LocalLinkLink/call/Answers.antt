@@ -1,4 +1,4 @@
-use Rattle.std.proofs.Common.{◌≡◌, Some, true, ap, refl, subst, sym, ◌∙◌}
+use Rattle.std.proofs.Common.{◌≡◌, Some, ap, refl, subst, sym, ◌∙◌}
 use Rattle.sw_ring.specs.Cluster.{ClusterModel}
 use Rattle.sw_message.specs.Learnt.{Learnt}
 use Rattle.sw_message.specs.Running.{StillTells}
@@ -16,7 +16,7 @@ call-reply-requires-clause-warranted g c =
     let cluster : ClusterModel = g.C.OfCluster.cluster in
     let same : c.self.inside.pass.known ≡ c.args.self.now.known = ap (λ (it : LocalModel g.row.T.Denot). it.known) c.self.view_is in
     may_call cluster g.D.Disk.tells c.args.msg.now c.self.inside.pass.known c.self.invariant.1
-    (subst (λ (known : Known). (of : ClusterModel) (learnt : Learnt) → Some cluster ≡ Some of → told_by cluster g.D.Disk.tells known.crowded known ≡ Some learnt → IsWarranted of learnt c.args.msg.now)
+    (subst (λ (known : Known). (of : ClusterModel) (learnt : Learnt) → Some cluster ≡ Some of → told_by cluster g.D.Disk.tells known ≡ Some learnt → IsWarranted of learnt c.args.msg.now)
     (sym same) c.requires.warranted)
 
 pub invariant_of-self-2 : goal.invariant_of-self-2
@@ -29,7 +29,7 @@ pub returns-clause-tells : goal.returns-clause-tells
 returns-clause-tells g c =
     let after : Known = c.call-reply.new.pass.known in
     let same : c.self.inside.pass.known ≡ c.args.self.now.known = ap (λ (it : LocalModel g.row.T.Denot). it.known) c.self.view_is in
-    subst (λ (known : Known). StillTells (after.crowded ≡ true) (told_by g.C.OfCluster.cluster g.D.Disk.tells known.crowded known) (told_by g.C.OfCluster.cluster g.D.Disk.tells after.crowded after)) same
+    subst (λ (known : Known). StillTells ⊥ (told_by g.C.OfCluster.cluster g.D.Disk.tells known) (told_by g.C.OfCluster.cluster g.D.Disk.tells after)) same
     (tells_after g.C.OfCluster.cluster g.D.Disk.tells c.args.device c.args.msg.now c.call-reply.result c.self.inside.pass.known after c.call-reply.ensures.called c.self.invariant.1)
 
 pub returns-clause-hears : goal.returns-clause-hears

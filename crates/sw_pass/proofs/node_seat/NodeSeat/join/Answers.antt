@@ -11,4 +11,4 @@ pub load-requires : goal.load-requires
 load-requires g c = (search rules, search rules, learns _ _ _ _ _)
 
 pub invariant_of-self : goal.invariant_of-self
-invariant_of-self g c = (search rules, joined_by _ c.join_seat.new.seat.me.0 c.self.inside.seat.me.0 c.into_seat.result.me.0 _ (search rules) c.self.invariant.1 c.load.ensures.2.1, c.self.invariant.2)
+invariant_of-self g c = (search rules, joined_by _ c.join_seat.new.seat.me.0 c.self.inside.seat.me.0 c.into_seat.result.me.0 c.load.new.seat.me.0 (search rules) c.self.invariant.1 (search rules), c.self.invariant.2)

@@ -3,4 +3,4 @@ use Rattle.sw_pass.proofs.Losing.{loses_at}
 use Rattle.sw_pass.proofs.node_seat.NodeSeat.loss.Goals as goal
 
 pub fetch_add-requires : goal.fetch_add-requires
-fetch_add-requires g c = let n = c.self.invariant.1 in (search rules, search rules, loses_at _ _ _ _ _ _ _ (search rules) n.kind (search rules) (search rules))
+fetch_add-requires g c = (search rules, search rules, loses_at _ _ _ _ _ _ _ (search rules) (search rules) c.self.invariant.1 (search rules) (search rules))

@@ -1,6 +1,6 @@
-use Rattle.std.proofs.Common.{◌≡◌, ℕ, ◌+◌, cond, is_some, Option, Some, None, Ok, false, refl, subst, rules, ◌∙◌}
+use Rattle.std.proofs.Common.{◌≡◌, ℕ, ◌+◌, cond, is_some, Option, Some, None, Ok, refl, subst, rules, ◌∙◌}
 use Rattle.std.specs.Prelude.{IfSome}
-use Rattle.sw_pass.specs.Steps.{Knows, RestOf, joined, learned, noted}
+use Rattle.sw_pass.specs.Steps.{Knows, joined, learned, noted}
 use Rattle.sw_pass.specs.declared.known.Known.{Known}
 use Rattle.sw_io.specs.Doors.{HandsOut, TakesBack, handed_after}
 use Rattle.sw_io.specs.declared.doors.DoorFailed.{DoorFailed}
@@ -43,7 +43,7 @@ abbrev back_so : (g : Over) → Option g.row.A-Conn.Denot → ℕ → ℕ
 back_so g done back = back_with (doors_of g) (serving_of g) g.B.Opening.times g.B.Opening.began done back
 
 -- What was known of those that are back is known once the seat has taken in a note, and the worker's pass knows no more.
-module _ (g : Over) (seat note after : Known) (rest : RestOf after (learned (joined seat note))) (learnt : after.crowded ≡ false → Knows g.C.OfCluster.cluster (joined seat note)) where
+module _ (g : Over) (seat note after : Known) (rest : after ≡ learned (joined seat note)) (learnt : Knows g.C.OfCluster.cluster (joined seat note)) where
   still : (now : g.row.A.Denot) (state : DoorsState) (handed back : ℕ) → Served g now state handed back seat → Served g now state handed back after
   still now state handed back has = known_more (doors_of g) (serving_of g) g.B.Opening.times g.B.Opening.began now state handed back seat after (goes_own g.C.OfCluster.cluster seat note after rest learnt) has
 

@@ -1,4 +1,4 @@
-use Rattle.std.proofs.Common.{◌≡◌, sym, subst, rules}
+use Rattle.std.proofs.Common.{sym, subst, rules}
 use Rattle.sw_server.specs.Ending.{IsStop}
 use Rattle.sw_server.specs.Served.{Serving}
 use Rattle.sw_server.specs.Visits.{DoorsMembers}

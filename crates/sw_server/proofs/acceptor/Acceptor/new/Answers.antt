@@ -1,4 +1,3 @@
-use Rattle.std.proofs.Common.{refl}
 use Rattle.sw_server.proofs.Comings.{none_yet}
 use Rattle.sw_server.proofs.acceptor.Acceptor.new.Goals as goal
 

@@ -1,4 +1,4 @@
-use Rattle.std.proofs.Common.{◌≡◌, ◌≤◌, ◌*◌, ℕ, false, ◌∷◌, length, None, refl, ap, subst, sym, ◌∙◌}
+use Rattle.std.proofs.Common.{◌≡◌, ℕ, false, ◌∷◌, None, refl, ap, subst, sym, ◌∙◌}
 use Rattle.sw_ring.specs.Cluster.{ClusterModel}
 use Rattle.sw_disk.specs.Runs.{IfTold}
 use Rattle.sw_message.specs.Message.{IsMember}
@@ -12,26 +12,18 @@ use Rattle.sw_pass.specs.declared.known.Known.{Known}
 use Rattle.sw_cell.specs.Locked.{IsLocked, LockedModel}
 use Rattle.sw_cell.specs.Standing.{IsReplaced}
 use Rattle.sw_cell.proofs.Closing.{has_history}
-use Rattle.sw_cell.proofs.Replacing.{event_room, left_events, locked_replaced, loss_may, loss_room, replaced}
+use Rattle.sw_cell.proofs.Replacing.{left_events, locked_replaced, loss_may, replaced}
 use Rattle.sw_cell.proofs.Slots.{one_device, slot_member}
-use Rattle.sw_cell.proofs.locked.Locked.replace.Given.{Over}
-use Rattle.sw_cell.proofs.locked.Locked.replace.Goals as goal
+use Rattle.sw_cell.proofs.locked.Locked.replace_counted.Given.{Over}
+use Rattle.sw_cell.proofs.locked.Locked.replace_counted.Goals as goal
 
 pub mount-requires : goal.mount-requires
 mount-requires g c = subst (λ (cluster : ClusterModel). IsMember cluster c.args.device) (sym c.requires.cluster) (slot_member g.C.OfCluster.cluster c.args.device c.args.self.now.slot c.requires.slot)
 
-pub loss-loss-requires-clause-fewer : goal.loss-loss-requires-clause-fewer
-loss-loss-requires-clause-fewer g c = loss_room c.self.inside.seat.known c.note.result.known c.join.new.self.known c.self.inside.seat.slot 0 c.join.ensures.known c.join.ensures.node c.self.invariant.fewer
-
-pub add_loss-requires-clause-room : goal.add_loss-requires-clause-room
-add_loss-requires-clause-room g c =
-    subst (λ (slot : ℕ). length (history c.loss-loss.new.self.known.histories slot) ≤ 2 * c.loss-loss.new.self.known.joined) (sym (c.loss-loss.ensures.table.1 ∙ c.join.ensures.table.1))
-    (event_room c.self.inside.seat.known c.note.result.known c.join.new.self.known c.self.inside.seat.slot c.loss-loss.result c.join.ensures.known c.join.ensures.node c.loss-loss.new.self.known c.loss-loss.ensures.known)
-
 pub add_loss-requires-clause-may : goal.add_loss-requires-clause-may
-add_loss-requires-clause-may g c = λ few.
+add_loss-requires-clause-may g c =
     subst (λ (slot : ℕ). MayAdvance g.C.OfCluster.cluster slot (Replaced c.loss-loss.result) c.loss-loss.new.self.known) (sym (c.loss-loss.ensures.table.1 ∙ c.join.ensures.table.1))
-    (loss_may c.self.inside.seat.known c.note.result.known c.join.new.self.known c.self.inside.seat.slot c.loss-loss.result c.join.ensures.known c.join.ensures.node g.C.OfCluster.cluster c.loss-loss.new.self.known c.loss-loss.ensures.known c.join.ensures.learnt few)
+    (loss_may c.self.inside.seat.known c.note.result.known c.join.new.self.known c.self.inside.seat.slot c.loss-loss.result c.join.ensures.known c.join.ensures.node g.C.OfCluster.cluster c.loss-loss.new.self.known c.loss-loss.ensures.known c.join.ensures.learnt)
 
 -- the slot of the device
 place : (g : Over) (c : goal.After-unmount g) → HasSlot g.C.OfCluster.cluster c.args.device c.self.inside.seat.slot
@@ -60,7 +52,7 @@ invariant_of-self g c =
     (subst (λ (held : HeldNode). IsLocked cluster g.J.Site.table seen (record { node = node; table = held.table; slot = held.slot; known = held.known; is_due = false })) (sym c.note-2.ensures.same) is)
 
 pub returns-clause-replaced : goal.returns-clause-replaced
-returns-clause-replaced g c = λ few.
+returns-clause-replaced g c =
     let seen = g.D.Disk.seen in
     let cluster = g.C.OfCluster.cluster in
     let seat = c.self.inside.seat in
@@ -69,7 +61,7 @@ returns-clause-replaced g c = λ few.
     let lost = c.unmount.ensures ∙ ap (λ (one : NodeModel g.row.D.Denot). one.disk) c.replace-lost.ensures.value in
     let is = replaced seat.known c.note.result.known c.join.new.self.known seat.slot c.loss-loss.result c.join.ensures.known c.join.ensures.node c.loss-loss.new.self.known c.add_loss.new.seat.known c.loss-loss.ensures.known (left_is g c)
     seen cluster c.args.device c.unmount.result c.note.new.self.known c.note-2.result.known c.join-2.new.self.known (c.note.ensures.known ∙ ap noted (sym same)) c.join.ensures.learnt c.note-2.ensures.known c.join-2.ensures.known c.join-2.ensures.learnt
-    (λ one. has_history cluster seen (history seat.known.histories seat.slot) c.self.inside.node c.args.device c.unmount.result lost device (c.self.invariant.replayed one) c.self.invariant.counted) few in
+    (has_history cluster seen (history seat.known.histories seat.slot) c.self.inside.node c.args.device c.unmount.result lost device c.self.invariant.replayed c.self.invariant.counted) in
     subst (λ (slot : ℕ). IsReplaced cluster seen c.args.device slot c.args.pass.now.known c.join-2.new.self.known c.unmount.result) (ap (λ (one : LockedModel g.row.D.Denot). one.slot) c.self.view_is)
     (subst (λ (pass : Known). IsReplaced cluster seen c.args.device seat.slot pass c.join-2.new.self.known c.unmount.result) same is)
 
