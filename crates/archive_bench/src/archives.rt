@@ -54,14 +54,15 @@ impl Put {
         requires { index < self.now.policy.k + self.now.policy.m }
         ensures { IfOk result (λ bytes. bytes ≡ archive_at self.now index) }
     {
-        make_archive(
+        let archive = make_archive(
             alloc,
             &self.policy,
             self.stamp,
             &self.name,
             &self.object,
             index,
-        )
+        )?;
+        Ok(archive.into_bytes())
     }
 
     /// The k of its archives from an index on, read and gathered in this order.

@@ -59,7 +59,7 @@ impl Put {
         requires seal { md5 ≡ put_seal self.now.policy self.now.stamp self.now.name self.now.object index }
         ensures { IfOk result (λ bytes. bytes ≡ archive_at self.now index) }
     {
-        make_sealed_archive(
+        let archive = make_sealed_archive(
             alloc,
             &self.policy,
             self.stamp,
@@ -67,6 +67,7 @@ impl Put {
             &self.object,
             index,
             md5,
-        )
+        )?;
+        Ok(archive.into_bytes())
     }
 }

@@ -7,7 +7,7 @@ use crate::telling::tell;
 use anyhow::{Context, Result, ensure};
 use std::alloc::Global;
 use std::fmt;
-use sw_archive::make_archive;
+use sw_archive::{ArchiveBytes, make_archive};
 use sw_hashpath::Place;
 use sw_message::Msg;
 use sw_ring::Cluster;
@@ -48,7 +48,7 @@ pub fn archive(
         "no such index"
     );
     let object = object_of(alloc, body)?;
-    Ok(make_archive(alloc, policy, stamp(later), name, &object, index)?)
+    Ok(make_archive(alloc, policy, stamp(later), name, &object, index)?.into_bytes())
 }
 
 // The object of this body.
@@ -145,6 +145,6 @@ pub fn put_frag(place: Place, later: u32, index: u32, bytes: Bytes) -> Msg {
         place,
         stamp: stamp(later),
         index,
-        bytes,
+        bytes: ArchiveBytes::new(bytes),
     }
 }

@@ -1,5 +1,5 @@
 -- Bytes are pairs that may stand in a head, or not.
-use Rattle.std.proofs.Common.{◌≡◌, ◌≤◌, ◌<◌, ◌^◌, ℕ, ◌+◌, ◌-◌, ◌==◌, ◌&&◌, not, nat_eq, zero, suc, Bool, MatchBool, eq-eqb, eqb-true, get_or, true, false, cond, List, [], ◌∷◌, ◌++◌, length, take, drop, slice_index, append_assoc, Some, None, refl, sym, ap, ap₂, subst, ◌∙◌, arith, drop_at, take_at}
+use Rattle.std.proofs.Common.{◌≡◌, ◌≤◌, ◌<◌, ◌^◌, ℕ, ◌+◌, ◌-◌, ◌==◌, ◌&&◌, not, nat_eq, Bool, MatchBool, eq-eqb, eqb-true, get_or, true, false, cond, List, [], ◌∷◌, ◌++◌, length, take, drop, slice_index, append_assoc, Some, None, refl, sym, ap, ap₂, subst, ◌∙◌, arith, drop_at, take_at}
 use Rattle.std.specs.Int.{w16, to_be_bytes, from_be_bytes}
 use Rattle.std.specs.Cmp.Lexicographic.{pointwise}
 use Rattle.std.specs.List.{flat_map, list_any}
@@ -8,11 +8,11 @@ use Rattle.std.proofs.lemmas.List.{append-nil, drop_more, length_push}
 use Rattle.std.proofs.lemmas.List.Elements.{All-from_recursion}
 use Rattle.std.proofs.lemmas.Nat.{from_be_bytes-to_be_bytes_2}
 use Rattle.sw_words.proofs.Rules.{neither}
-use Rattle.sw_types.specs.Head.{FitsBehind, HeadModel, Pair, greatest_overall, greatest_pairs, head_fault, is_content_type, is_pair_name, is_pair_value, overall, pairs_fault}
+use Rattle.sw_types.specs.Head.{FitsBehind, HeadModel, Pair, greatest_overall, greatest_pairs, head_fault, is_content_type, is_pair_name, is_pair_value, pairs_fault}
 use Rattle.sw_types.specs.declared.head.HeadFault.TheVariants.{ContentType}
 use Rattle.sw_types.proofs.HeadForms.{kept_behind, overall_push, pair_fits}
 use Rattle.sw_archive.specs.Pairs.{AreAtFront, AreFaultless, ArePairs, IsHeadText, behind_name, behind_pair, first_pair, pairs_in, value_length}
-use Rattle.sw_archive.specs.Parts.{AreShort, IsHead, head_bytes, pair_bytes}
+use Rattle.sw_archive.specs.Parts.{AreShort, IsHead, pair_bytes}
 use Rattle.sw_archive.proofs.Heads.{behind_content, head_rest, no_pairs, one_pair, pairs_push, same_pairs, small, wanted}
 
 abbrev head_of : List ℕ → List Pair → HeadModel

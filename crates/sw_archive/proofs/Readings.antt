@@ -1,5 +1,5 @@
 -- What is read behind a header without a fault is an archive.
-use Rattle.std.proofs.Common.{◌≡◌, ◌+◌, ◌-◌, ◌==◌, ◌&&◌, ℕ, not, nat_lt, nat_eq, List, [], ◌++◌, length, take, drop, Option, Some, None, true, refl, sym, ap, subst, ◌∙◌, arith, append_assoc, length-append, length-take, length-drop, eqb-true, eq-eqb}
+use Rattle.std.proofs.Common.{◌≡◌, ◌≢◌, ◌+◌, ◌-◌, ◌==◌, ◌&&◌, ℕ, not, nat_lt, nat_eq, List, [], ◌++◌, length, take, drop, Option, Some, None, Bool, true, false, refl, sym, ap, subst, ◌∙◌, arith, append_assoc, length-append, length-take, length-drop, eqb-true, eq-eqb}
 use Rattle.std.specs.Cmp.Lexicographic.{pointwise}
 use Rattle.std.specs.Prelude.{is_none}
 use Rattle.std.proofs.lemmas.Bool.{and_parts, le-ltb, lt-ltb, ltb-false, ltb-true, not-false}
@@ -12,7 +12,7 @@ use Rattle.sw_words.proofs.Rules.{kept, passed}
 use Rattle.sw_types.specs.Object.{greatest_body}
 use Rattle.sw_types.specs.Stamp.{greatest_stamp}
 use Rattle.sw_archive.specs.Archive.{ArchiveModel, IsArchive, checked, header_of, magic}
-use Rattle.sw_archive.specs.Fault.{Opens, before_md5, early_fault, head_in, is_code, last_md5, number_fault, path_in}
+use Rattle.sw_archive.specs.Fault.{IsSealed, Opens, before_md5, early_fault, head_in, is_code, last_md5, number_fault, path_in}
 use Rattle.sw_archive.specs.Header.{HeaderModel, opening, told_length}
 use Rattle.sw_archive.specs.Reading.{AreNumbers, IsReadBehind}
 use Rattle.sw_archive.specs.declared.fault.ArchiveFault.TheVariants.{BadMagic, BadVersion, BadLength, Damaged, BadField}
@@ -86,6 +86,10 @@ last_sixteen bytes front tail e sixteen =
       ap (drop (length bytes - 16)) e ∙ drop_at front tail _ (sym count),
     )
 
+-- bytes with their MD5 behind them are sealed
+pub sealed : (bytes : List ℕ) → IsSealed (bytes ++ md5 bytes)
+sealed bytes = let last = last_sixteen (bytes ++ md5 bytes) bytes (md5 bytes) refl (length-md5 bytes) in last.1 ∙ ap md5 (sym last.0)
+
 -- the header of an archive has no fault
 pub archive_faultless : (bytes : List ℕ) (archive : ArchiveModel) → IsArchive bytes archive → IsFaultless bytes (header_of archive)
 archive_faultless bytes archive is =
@@ -97,6 +101,22 @@ archive_faultless bytes archive is =
       digest = last.1 ∙ ap md5 (sym last.0);
       numbers = record { code = is.sound.code; index = is.sound.index; stamp = is.sound.stamp; body_length = is.sound.body_length };
     }
+
+-- and an archive is sealed
+pub sealed_archive : (bytes : List ℕ) (archive : ArchiveModel) → IsArchive bytes archive → IsSealed bytes
+sealed_archive bytes archive is = (archive_faultless bytes archive is).digest
+
+-- ---- whether the last MD5 is as it must be
+
+pub is_equal : (bytes : List ℕ) → IsSealed bytes → pointwise nat_eq (last_md5 bytes) (md5 (before_md5 bytes)) ≡ true
+is_equal bytes is = (Decides-texts (last_md5 bytes) (md5 (before_md5 bytes))).1 is
+
+pub differs : (bytes : List ℕ) → (last_md5 bytes ≢ md5 (before_md5 bytes)) → pointwise nat_eq (last_md5 bytes) (md5 (before_md5 bytes)) ≡ false
+differs bytes other = by_case (pointwise nat_eq (last_md5 bytes) (md5 (before_md5 bytes))) refl
+  where
+    by_case : (b : Bool) → pointwise nat_eq (last_md5 bytes) (md5 (before_md5 bytes)) ≡ b → pointwise nat_eq (last_md5 bytes) (md5 (before_md5 bytes)) ≡ false
+    by_case true is = absurd (other ((Decides-texts (last_md5 bytes) (md5 (before_md5 bytes))).0 is))
+    by_case false is = is
 
 -- ---- what is read behind a header
 

@@ -40,6 +40,10 @@ before_md5 bytes = take (length bytes - 16) bytes
 abbrev pub last_md5 : List ℕ → List ℕ
 last_md5 bytes = drop (length bytes - 16) bytes
 
+-- the bytes end with the MD5 of those before
+abbrev pub IsSealed : List ℕ → Type 0
+IsSealed bytes = last_md5 bytes ≡ md5 (before_md5 bytes)
+
 -- whether the numbers are those of a policy, with the least quorums
 abbrev pub is_code : ℕ → ℕ → ℕ → Bool
 is_code k m segment = is_none (policy_fault (record { k = k; m = m; q = k; c = k; segment = segment }))

@@ -15,11 +15,12 @@ ghost use Rattle.sw_archive.specs.Put.{AreOfPut, IsPut, put_archive};
 ghost use Rattle.sw_archive.specs.declared.assemble.AssembleFault.TheVariants.{NoMemory as WantOfMemory};
 
 use crate::archive::Archive;
+use crate::archive_bytes::ArchiveBytes;
 use crate::decoding::{decode_body, rebuild_payload};
 use crate::label::{Label, seal};
 use std::alloc::Global;
 use std::marker::Model;
-use sw_types::{Bytes, NoMemory, Object};
+use sw_types::{NoMemory, Object};
 use thiserror::Error;
 
 /// Why no object was read from k archives.
@@ -132,7 +133,7 @@ impl Assemble {
     }
 
     /// The archive of an index, there or not, of the same object.
-    pub fn further(&self, alloc: Global, index: u32) -> Result<Bytes, NoMemory>
+    pub fn further(&self, alloc: Global, index: u32) -> Result<ArchiveBytes, NoMemory>
         requires enough { AreEnough self.now.archives }
         requires index { All (λ archive. index < archive.k + archive.m) self.now.archives }
         ensures put { (policy : PolicyModel) (stamp : ℕ) (name : NameModel) (object : ObjectModel) → IsPut policy stamp name object →
@@ -180,7 +181,7 @@ fn decode_object(alloc: Global, archives: &[Archive]) -> Result<Object, NoMemory
 }
 
 // The archive of an index of k archives' object.
-fn archive_of(alloc: Global, archives: &[Archive], index: u32) -> Result<Bytes, NoMemory>
+fn archive_of(alloc: Global, archives: &[Archive], index: u32) -> Result<ArchiveBytes, NoMemory>
     requires enough { AreEnough archives.now }
     requires together { AreTogether archives.now }
     requires index { All (λ archive. index < archive.k + archive.m) archives.now }

@@ -6,6 +6,7 @@ ghost use Rattle.sw_types.specs.Object.{greatest_body};
 ghost use Rattle.sw_archive.specs.Archive.{label_bytes, payload_length};
 ghost use Rattle.sw_archive.specs.Label.{header_told, labelled};
 
+use crate::archive_bytes::ArchiveBytes;
 use crate::header::Header;
 use crate::parts::head_bytes;
 use crate::payload::payload_length;
@@ -73,17 +74,18 @@ impl Label<'_> {
 }
 
 /// The bytes, and their MD5 behind them.
-pub(crate) fn seal(bytes: Vec<u8>) -> Result<Bytes, NoMemory>
+pub(crate) fn seal(bytes: Vec<u8>) -> Result<ArchiveBytes, NoMemory>
     ensures { IfOk result (λ sealed. sealed ≡ bytes.items ++ md5 bytes.items) }
 {
-    let md5 = Md5::digest(bytes.as_slice());
-    seal_with(bytes, md5)
+    let digest = Md5::digest(bytes.as_slice());
+    seal_with(bytes, digest)
 }
 
-/// The bytes, and an MD5 behind them.
-pub(crate) fn seal_with(mut bytes: Vec<u8>, md5: [u8; 16]) -> Result<Bytes, NoMemory>
-    ensures { IfOk result (λ sealed. sealed ≡ bytes.items ++ md5) }
+/// The same, where their MD5 is known.
+pub(crate) fn seal_with(mut bytes: Vec<u8>, digest: [u8; 16]) -> Result<ArchiveBytes, NoMemory>
+    requires { digest ≡ md5 bytes.items }
+    ensures { IfOk result (λ sealed. sealed ≡ bytes.items ++ md5 bytes.items) }
 {
-    bytes.extend_from_slice(&md5)?;
-    Ok(Bytes::from(bytes))
+    bytes.extend_from_slice(&digest)?;
+    Ok(ArchiveBytes::sealed(Bytes::from(bytes)))
 }

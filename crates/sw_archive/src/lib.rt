@@ -3,6 +3,7 @@
 #![tactic(auto)]
 
 mod archive;
+mod archive_bytes;
 mod assemble;
 mod decoding;
 mod fault;
@@ -19,6 +20,7 @@ mod sealing;
 mod spelled;
 
 pub use crate::archive::Archive;
+pub use crate::archive_bytes::ArchiveBytes;
 pub use crate::assemble::{Assemble, AssembleFault};
 pub use crate::fault::{ArchiveFault, ArchiveField};
 pub use crate::laws::{archive_law, assemble_law, fault_law, pieces_law, put_law};

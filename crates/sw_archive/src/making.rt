@@ -4,11 +4,12 @@ ghost use Rattle.std.specs.Prelude.{◌≡◌, ◌<◌, ◌+◌, IfOk};
 ghost use Rattle.sw_archive.specs.Archive.{checked};
 ghost use Rattle.sw_archive.specs.Put.{put_archive, put_fields, put_label, put_seal};
 
+use crate::archive_bytes::ArchiveBytes;
 use crate::label::{Label, seal, seal_with};
 use crate::payload::{payload_length, push_payload};
 use std::alloc::Global;
 use sw_cauchy::Code;
-use sw_types::{Bytes, Name, NoMemory, Object, Policy, Stamp};
+use sw_types::{Name, NoMemory, Object, Policy, Stamp};
 
 /// The archive of one index of an object that is put.
 pub fn make_archive(
@@ -18,7 +19,7 @@ pub fn make_archive(
     name: &Name,
     object: &Object,
     index: u32,
-) -> Result<Bytes, NoMemory>
+) -> Result<ArchiveBytes, NoMemory>
     requires index { index < policy.now.k + policy.now.m }
     ensures { IfOk result (λ bytes. bytes ≡ put_archive policy.now stamp name.now object.now index) }
 {
@@ -35,7 +36,7 @@ pub fn make_sealed_archive(
     object: &Object,
     index: u32,
     md5: [u8; 16],
-) -> Result<Bytes, NoMemory>
+) -> Result<ArchiveBytes, NoMemory>
     requires index { index < policy.now.k + policy.now.m }
     requires seal { md5 ≡ put_seal policy.now stamp name.now object.now index }
     ensures { IfOk result (λ bytes. bytes ≡ put_archive policy.now stamp name.now object.now index) }

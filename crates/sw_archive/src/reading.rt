@@ -1,9 +1,10 @@
 //! Archives are read.
 
-ghost use Rattle.std.specs.Prelude.{◌≡◌, ◌≢◌, ◌≤◌, ◌+◌, length, Err, IfErr, IfOk, MatchResult, Ok};
+ghost use Rattle.std.specs.Prelude.{◌≡◌, ◌≢◌, ◌≤◌, ◌+◌, length, Err, IfErr, IfOk, IsTrue, MatchOption, MatchResult, Ok};
+ghost use Rattle.md5.specs.Md5.{md5};
 ghost use Rattle.sw_words.specs.Memory.{UnlessMemory};
 ghost use Rattle.sw_archive.specs.Archive.{ArchiveModel, IsArchive};
-ghost use Rattle.sw_archive.specs.Fault.{IsFault, IsLateFault, early_fault, is_code, number_fault};
+ghost use Rattle.sw_archive.specs.Fault.{IsFault, IsLateFault, IsSealed, before_md5, early_fault, is_code, last_md5, number_fault};
 ghost use Rattle.sw_archive.specs.Header.{told_length};
 ghost use Rattle.sw_archive.specs.Reading.{AreNumbers, IsReadBehind};
 
@@ -39,18 +40,30 @@ pub fn check_archive(bytes: &[u8]) -> Result<Spelled<'_>, ArchiveFault>
     ensures fault { IfErr result (λ fault. IsFault bytes.now fault × (fault ≢ ArchiveFault.NoMemory)) }
     ensures refused { (fault : ArchiveFault) → IsFault bytes.now fault → result ≡ Err fault }
 {
-    check_fields(bytes)
+    check_noted(bytes, false)
+}
+
+/// The same, where it is known whether they end with the MD5 of those before.
+pub(crate) fn check_noted(bytes: &[u8], is_sealed: bool) -> Result<Spelled<'_>, ArchiveFault>
+    requires sealed { IsTrue is_sealed → IsSealed bytes.now }
+    ensures found { IfOk result (λ archive. IsArchive bytes.now archive) }
+    ensures reads { (archive : ArchiveModel) → IsArchive bytes.now archive → result ≡ Ok archive }
+    ensures fault { IfErr result (λ fault. IsFault bytes.now fault × (fault ≢ ArchiveFault.NoMemory)) }
+    ensures refused { (fault : ArchiveFault) → IsFault bytes.now fault → result ≡ Err fault }
+{
+    check_fields(bytes, is_sealed)
 }
 
 // The same, field by field.
-fn check_fields(bytes: &[u8]) -> Result<Spelled<'_>, ArchiveFault>
+fn check_fields(bytes: &[u8], is_sealed: bool) -> Result<Spelled<'_>, ArchiveFault>
+    requires sealed { IsTrue is_sealed → IsSealed bytes.now }
     ensures { MatchResult result (λ archive. IsArchive bytes.now archive) (λ fault. IsFault bytes.now fault) }
 {
     if bytes.len() < 68 {
         return Err(ArchiveFault::Short { found: bytes.len() });
     }
     let (header, rest) = Header::read(bytes);
-    if let Some(fault) = header.early_fault(bytes) {
+    if let Some(fault) = header.early_fault(bytes, is_sealed) {
         return Err(fault);
     }
     check_behind(&header, rest)
@@ -58,8 +71,9 @@ fn check_fields(bytes: &[u8]) -> Result<Spelled<'_>, ArchiveFault>
 
 impl Header {
     // The first fault that the header and the last MD5 tell.
-    fn early_fault(&self, bytes: &[u8]) -> Option<ArchiveFault>
-        requires { 16 ≤ length bytes.now }
+    fn early_fault(&self, bytes: &[u8], is_sealed: bool) -> Option<ArchiveFault>
+        requires long { 16 ≤ length bytes.now }
+        requires sealed { IsTrue is_sealed → IsSealed bytes.now }
         ensures { result ≡ early_fault bytes.now self.now }
     {
         if self.magic != *b"ECFA" {
@@ -77,13 +91,10 @@ impl Header {
                 found: bytes.len(),
             });
         }
-        let (checked, stored) = bytes.split_at(bytes.len() - 16);
-        let computed = Md5::digest(checked);
-        if stored != computed.as_slice() {
-            return Some(ArchiveFault::Damaged {
-                stored: sixteen(stored),
-                computed,
-            });
+        if !is_sealed {
+            if let Some(fault) = seal_fault(bytes) {
+                return Some(fault);
+            }
         }
         self.number_fault()
     }
@@ -111,6 +122,23 @@ impl Header {
         let k = u32::from(self.k);
         Policy::make(k, u32::from(self.m), k, k, self.segment).is_ok()
     }
+}
+
+// The fault that the last MD5 tells.
+fn seal_fault(bytes: &[u8]) -> Option<ArchiveFault>
+    requires { 16 ≤ length bytes.now }
+    ensures { MatchOption result (IsSealed bytes.now)
+        (λ fault. (fault ≡ ArchiveFault.Damaged (last_md5 bytes.now) (md5 (before_md5 bytes.now))) × (last_md5 bytes.now ≢ md5 (before_md5 bytes.now))) }
+{
+    let (checked, stored) = bytes.split_at(bytes.len() - 16);
+    let computed = Md5::digest(checked);
+    if stored == computed.as_slice() {
+        return None;
+    }
+    Some(ArchiveFault::Damaged {
+        stored: sixteen(stored),
+        computed,
+    })
 }
 
 // What stands behind a header without a fault.

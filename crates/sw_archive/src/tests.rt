@@ -41,7 +41,7 @@ fn made(alloc: Global, segment: u32, units: u64, body: &[u8], index: u32) -> Res
     let head = Head::make(alloc, TYPE, &[])?;
     let body = Bytes::from_slice(alloc, body)?;
     let object = Object::make(head, body).ok().ok_or("too long")?;
-    Ok(make_archive(alloc, &policy, stamp, &name, &object, index)?)
+    Ok(make_archive(alloc, &policy, stamp, &name, &object, index)?.into_bytes())
 }
 
 // The same, with the MD5s of all its archives computed first.
@@ -56,7 +56,7 @@ fn made_with_seals(alloc: Global, units: u64, body: &[u8], index: u32) -> Result
     let object = Object::make(head, body).ok().ok_or("too long")?;
     let md5s = seals(alloc, &policy, stamp, &name, &object)?;
     let md5 = md5s[index as usize];
-    Ok(make_sealed_archive(alloc, &policy, stamp, &name, &object, index, md5)?)
+    Ok(make_sealed_archive(alloc, &policy, stamp, &name, &object, index, md5)?.into_bytes())
 }
 
 #[test]
@@ -164,7 +164,7 @@ fn made_of_nothing(alloc: Global, head: Head) -> Result<Bytes, Fail> {
     let object = Object::make(head, Bytes::new(alloc))
         .ok()
         .ok_or("too long")?;
-    Ok(make_archive(alloc, &policy, stamp, &name, &object, 1)?)
+    Ok(make_archive(alloc, &policy, stamp, &name, &object, 1)?.into_bytes())
 }
 
 #[test]
@@ -355,7 +355,7 @@ fn expect_decoded(
     )?;
     expect_object(rt, &assemble.object(alloc)?, body);
     for index in 0..3u32 {
-        let bytes = assemble.further(alloc, index)?;
+        let bytes = assemble.further(alloc, index)?.into_bytes();
         expect_archive(rt, alloc, &bytes, body, index, payloads[index as usize])?;
     }
     Ok(())

@@ -11,8 +11,8 @@ ghost use Rattle.sw_archive.specs.Put.{AreOfPut, IsPut, put_archive};
 
 use std::alloc::Global;
 use std::marker::Model;
-use sw_archive::{Archive, Assemble, AssembleFault};
-use sw_types::{Bytes, NoMemory, Object, Policy};
+use sw_archive::{Archive, ArchiveBytes, Assemble, AssembleFault};
+use sw_types::{NoMemory, Object, Policy};
 
 /// Archives of one object, and the object once k of them are there.
 #[derive(Debug, Drop)]
@@ -92,7 +92,7 @@ impl Gathered {
     }
 
     /// The archive of an index, there or not, of the object of k archives.
-    pub fn further(&self, alloc: Global, index: u32) -> Result<Bytes, NoMemory>
+    pub fn further(&self, alloc: Global, index: u32) -> Result<ArchiveBytes, NoMemory>
         requires enough { AreEnough self.now.archives }
         requires index { All (λ archive. index < archive.k + archive.m) self.now.archives }
         ensures put { (policy : PolicyModel) (stamp : ℕ) (name : NameModel) (object : ObjectModel) → IsPut policy stamp name object →

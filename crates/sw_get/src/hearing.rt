@@ -6,9 +6,9 @@ ghost use Rattle.sw_get.specs.Round.{HasObject};
 
 use crate::round::Round;
 use std::alloc::Global;
-use sw_archive::Archive;
+use sw_archive::{Archive, ArchiveBytes};
 use sw_message::{Foreign, Miss, Reply, Spoil, Target, check_named};
-use sw_types::{Bytes, Name, NoMemory, Policy, Stamp};
+use sw_types::{Name, NoMemory, Policy, Stamp};
 
 impl Round {
     /// Takes the answer of a source, or that there is none: what it brings is read and compared with what was asked for and with the
@@ -63,14 +63,14 @@ impl Round {
         name: &Name,
         stamp: Stamp,
         source: Target,
-        bytes: &Bytes,
+        bytes: &ArchiveBytes,
     ) -> Result<(), NoMemory>
         ensures ok { IfOk result (λ _. (meaning : Meaning) × IsRead (record { policy = policy.now; name = name.now; stamp = stamp }) self.old.facts.archives source.index bytes.now meaning
             × (self.new.facts ≡ with_fetched self.old.facts source meaning)) }
         ensures object { HasObject policy.now.k self.old → IfOk result (λ _. HasObject policy.now.k self.new) }
         ensures refused { OnErr result (self.new ≡ self.old) }
     {
-        match check_named(policy, name, stamp, source.index, bytes.as_slice()) {
+        match check_named(policy, name, stamp, source.index, bytes) {
             Ok(spelled) => {
                 let archive = spelled.archive(alloc)?;
                 self.bring(alloc, policy, source, archive)

@@ -4,7 +4,7 @@ use crate::tests::Answer::{Archive, Damaged, Durable, Empty, Gone, Other, Silenc
 use crate::{GetEnd, GetOp};
 use std::alloc::Global;
 use std::test::Fail;
-use sw_archive::make_archive;
+use sw_archive::{ArchiveBytes, make_archive};
 use sw_hashdir::HashDir;
 use sw_message::{Miss, Operation, Reply, Sent, Target};
 use sw_ring::Cluster;
@@ -84,7 +84,8 @@ impl Answer {
             }
             Answer::Other(units, index) => return Ok(Some(archive(alloc, units, index, b"abd")?)),
             Answer::Damaged => {
-                return Ok(Some(Reply::Fragment(Bytes::from_slice(alloc, b"abc")?)));
+                let bytes = ArchiveBytes::new(Bytes::from_slice(alloc, b"abc")?);
+                return Ok(Some(Reply::Fragment(bytes)));
             }
             Answer::Gone => return Ok(Some(Reply::Gone(HashDir::of(alloc, &names)?.listing(
                 alloc,

@@ -6,7 +6,7 @@ ghost use Rattle.sw_message.specs.Spoil.{DiffersIn, HasCode, IsAlike, IsAsked, I
 ghost use Rattle.sw_message.specs.declared.spoil.Spoil.{Spoil as ASpoil};
 
 use crate::spoil::{Foreign, Spoil};
-use sw_archive::{Spelled, check_archive};
+use sw_archive::{ArchiveBytes, Spelled};
 use sw_hashpath::Place;
 use sw_ring::Cluster;
 use sw_types::{Name, Policy, Stamp};
@@ -18,7 +18,7 @@ pub fn check_asked<'a>(
     place: &Place,
     stamp: Stamp,
     index: u32,
-    bytes: &'a [u8],
+    bytes: &'a ArchiveBytes,
 ) -> Result<Spelled<'a>, Spoil>
     ensures found { IfOk result (λ archive. IsArchive bytes.now archive × IsAsked (IsOfPlace cluster.now place.now) cluster.now.policy stamp index archive) }
     ensures reads { (archive : ArchiveModel) → IsArchive bytes.now archive → IsAsked (IsOfPlace cluster.now place.now) cluster.now.policy stamp index archive → result ≡ Ok archive }
@@ -35,7 +35,7 @@ pub fn check_named<'a>(
     name: &Name,
     stamp: Stamp,
     index: u32,
-    bytes: &'a [u8],
+    bytes: &'a ArchiveBytes,
 ) -> Result<Spelled<'a>, Spoil>
     ensures found { IfOk result (λ archive. IsArchive bytes.now archive × IsAsked (IsNamed name.now) policy.now stamp index archive) }
     ensures reads { (archive : ArchiveModel) → IsArchive bytes.now archive → IsAsked (IsNamed name.now) policy.now stamp index archive → result ≡ Ok archive }
@@ -51,12 +51,12 @@ fn check_of_place<'a>(
     place: &Place,
     stamp: Stamp,
     index: u32,
-    bytes: &'a [u8],
+    bytes: &'a ArchiveBytes,
 ) -> Result<Spelled<'a>, Spoil>
     ensures { MatchResult result (λ archive. IsArchive bytes.now archive × IsAsked (IsOfPlace cluster.now place.now) cluster.now.policy stamp index archive)
         (λ spoil. IsSpoil cluster.now place.now stamp index bytes.now spoil) }
 {
-    let archive = check_archive(bytes)?;
+    let archive = bytes.check()?;
     if !is_of_place(cluster, place, &archive) {
         return Err(Spoil::Foreign(Foreign::Name));
     }
@@ -72,12 +72,12 @@ fn check_of_name<'a>(
     name: &Name,
     stamp: Stamp,
     index: u32,
-    bytes: &'a [u8],
+    bytes: &'a ArchiveBytes,
 ) -> Result<Spelled<'a>, Spoil>
     ensures { MatchResult result (λ archive. IsArchive bytes.now archive × IsAsked (IsNamed name.now) policy.now stamp index archive)
         (λ spoil. IsSpoilOf (IsNamed name.now) policy.now stamp index bytes.now spoil) }
 {
-    let archive = check_archive(bytes)?;
+    let archive = bytes.check()?;
     if !archive.is_named(name) {
         return Err(Spoil::Foreign(Foreign::Name));
     }

@@ -3,8 +3,9 @@
 ghost use Rattle.std.specs.Prelude.{◌≡◌};
 ghost use Rattle.sw_message.specs.Message.{place_in};
 
+use sw_archive::ArchiveBytes;
 use sw_hashpath::Place;
-use sw_types::{Bytes, Stamp};
+use sw_types::Stamp;
 
 /// What a node is asked to do, in the folder of a place or with its device.
 #[derive(Debug, Drop)]
@@ -14,7 +15,7 @@ pub enum Msg {
         place: Place,
         stamp: Stamp,
         index: u32,
-        bytes: Bytes,
+        bytes: ArchiveBytes,
     },
     /// To make an archive durable.
     Commit {

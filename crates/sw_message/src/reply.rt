@@ -1,9 +1,10 @@
 //! Replies of nodes.
 
 use crate::spoil::Spoil;
+use sw_archive::ArchiveBytes;
 use sw_hashdir::{Floor, Listing};
 use sw_hashpath::Place;
-use sw_types::{Bytes, Items};
+use sw_types::Items;
 
 /// What a node answers.
 #[derive(Debug, Drop)]
@@ -21,7 +22,7 @@ pub enum Reply {
     /// What the folder has.
     Held(Listing),
     /// The archive's bytes.
-    Fragment(Bytes),
+    Fragment(ArchiveBytes),
     /// The archive is not there; what the folder has.
     Gone(Listing),
     /// The bytes are not the archive's.

@@ -6,13 +6,13 @@ use crate::{
 };
 use std::alloc::Global;
 use std::test::Fail;
-use sw_archive::{ArchiveFault, Spelled, make_archive};
+use sw_archive::{ArchiveBytes, ArchiveFault, Spelled, make_archive};
 use sw_hashpath::Place;
 use sw_ring::{Cluster, built_in};
 use sw_types::{Bytes, Head, Name, Object, Policy, Stamp};
 
 // Archive 1 of `abc`, put as a/c/o under the policy of the built-in ring but for its segment.
-fn made(alloc: Global, stamp: Stamp, segment: u32) -> Result<Bytes, Fail> {
+fn made(alloc: Global, stamp: Stamp, segment: u32) -> Result<ArchiveBytes, Fail> {
     let policy = Policy::make(2, 1, 3, 2, segment)?;
     let head = Head::make(alloc, b"text/plain", &[])?;
     let body = Bytes::from_slice(alloc, b"abc")?;
@@ -30,7 +30,7 @@ fn asked<'a>(
     place: &Place,
     stamp: Stamp,
     index: u32,
-    bytes: &'a [u8],
+    bytes: &'a ArchiveBytes,
 ) -> Result<Spelled<'a>, Spoil> {
     check_asked(cluster, place, stamp, index, bytes)
 }
@@ -42,7 +42,7 @@ fn reads_what_was_asked_for(rt: HostRuntime) -> Result<(), Fail> {
     let place = cluster.place(alloc, &a_c_o(alloc)?)?;
     let stamp = Stamp::make(7).ok_or("stamp")?;
     let bytes = made(alloc, stamp, 1_048_576)?;
-    let spelled = asked(&cluster, &place, stamp, 1, bytes.as_slice());
+    let spelled = asked(&cluster, &place, stamp, 1, &bytes);
     let archive = spelled.ok().ok_or("spoiled")?.archive(alloc)?;
     assert_eq!(rt; archive.index(), 1);
     assert_eq!(rt; archive.payload(), b"c\x00".as_slice());
@@ -68,7 +68,7 @@ fn tells_the_first_difference(rt: HostRuntime) -> Result<(), Fail> {
     ];
     for (place, asked_for, index, segment, foreign) in cases {
         let bytes = made(alloc, stamp, segment)?;
-        let spelled = asked(&cluster, &place, asked_for, index, bytes.as_slice());
+        let spelled = asked(&cluster, &place, asked_for, index, &bytes);
         assert_eq!(rt; spelled.err(), Some(Spoil::Foreign(foreign)));
     }
     Ok(())
@@ -95,7 +95,8 @@ fn tells_the_fault(rt: HostRuntime) -> Result<(), Fail> {
         (short, ArchiveFault::Short { found: 67 }),
     ];
     for (bytes, fault) in cases {
-        let spelled = asked(&cluster, &place, stamp, 1, bytes);
+        let bytes = ArchiveBytes::new(Bytes::from_slice(alloc, bytes)?);
+        let spelled = asked(&cluster, &place, stamp, 1, &bytes);
         assert_eq!(rt; spelled.err(), Some(Spoil::Fault(fault)));
     }
     Ok(())
@@ -111,7 +112,7 @@ fn tells_the_place_of_a_message(rt: HostRuntime) -> Result<(), Fail> {
             place,
             stamp,
             index,
-            bytes: Bytes::new(rt.alloc()),
+            bytes: ArchiveBytes::new(Bytes::new(rt.alloc())),
         },
         Msg::Commit {
             place,

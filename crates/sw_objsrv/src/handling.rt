@@ -49,15 +49,7 @@ pub(crate) fn answer<D: Disk>(
             stamp,
             index,
             bytes,
-        } => put_frag(
-            alloc,
-            disk,
-            cluster,
-            place,
-            *stamp,
-            *index,
-            bytes.as_slice(),
-        ),
+        } => put_frag(alloc, disk, cluster, place, *stamp, *index, bytes),
         Msg::Commit {
             place,
             stamp,

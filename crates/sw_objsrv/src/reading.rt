@@ -10,12 +10,13 @@ ghost use Rattle.sw_objsrv.specs.Reading.{IsReplied};
 
 use crate::looking::look_at;
 use std::alloc::Global;
+use sw_archive::ArchiveBytes;
 use sw_disk::{Disk, DiskRefusal};
 use sw_diskfile::fetch as fetch_entry;
 use sw_hashpath::Place;
 use sw_message::{Reply, check_asked};
 use sw_ring::Cluster;
-use sw_types::{Bytes, Stamp};
+use sw_types::Stamp;
 
 /// Lists the folder of a place.
 pub(crate) fn ask<D: Disk>(alloc: Global, disk: &mut D, place: &Place) -> Result<Reply, DiskRefusal>
@@ -44,16 +45,22 @@ pub(crate) fn fetch<D: Disk>(
     let Some(entry) = looked.dir.entry(stamp, index) else {
         return Ok(Reply::Gone(looked.dir.listing(alloc)?));
     };
-    let bytes = fetch_entry(alloc, disk, &looked.folder, entry)?;
+    let bytes = ArchiveBytes::new(fetch_entry(alloc, disk, &looked.folder, entry)?);
     Ok(reply_of(cluster, place, stamp, index, bytes))
 }
 
 // The reply to bytes that were read. It takes no memory, so a spoiled archive is told.
-fn reply_of(cluster: &Cluster, place: &Place, stamp: Stamp, index: u32, bytes: Bytes) -> Reply
+fn reply_of(
+    cluster: &Cluster,
+    place: &Place,
+    stamp: Stamp,
+    index: u32,
+    bytes: ArchiveBytes,
+) -> Reply
     ensures { IsReplied cluster.now place.now stamp index bytes result }
 {
-    match check_asked(cluster, place, stamp, index, bytes.as_slice()) {
-        Ok(_archive) => Reply::Fragment(bytes),
+    match check_asked(cluster, place, stamp, index, &bytes) {
+        Ok(_archive) => Reply::Fragment(bytes.into_checked()),
         Err(spoil) => Reply::Spoiled(spoil),
     }
 }

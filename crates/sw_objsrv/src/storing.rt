@@ -14,6 +14,7 @@ ghost use Rattle.sw_objsrv.specs.Storing.{IsKnown, IsToStore};
 
 use crate::looking::{covering, look_at};
 use std::alloc::Global;
+use sw_archive::ArchiveBytes;
 use sw_disk::{Disk, DiskRefusal};
 use sw_diskfile::store;
 use sw_hashdir::HashDir;
@@ -30,7 +31,7 @@ pub(crate) fn put_frag<D: Disk>(
     place: &Place,
     stamp: Stamp,
     index: u32,
-    bytes: &[u8],
+    bytes: &ArchiveBytes,
 ) -> Result<Reply, DiskRefusal>
     requires { length (folder_of place.now) ≤ 64 }
     ensures handles { Handles D.seen D.left_since (folder_of place.now) (HandlesPutFrag cluster.now place.now stamp index bytes.now) result disk.old disk.new }
@@ -41,7 +42,7 @@ pub(crate) fn put_frag<D: Disk>(
     if let Some(reply) = known(cluster, place, &looked.dir, stamp, index, bytes) {
         return Ok(reply);
     }
-    store(alloc, disk, &looked.folder, stamp, index, bytes)?;
+    store(alloc, disk, &looked.folder, stamp, index, bytes.as_slice())?;
     Ok(Reply::Synced)
 }
 
@@ -52,7 +53,7 @@ fn known(
     dir: &HashDir,
     stamp: Stamp,
     index: u32,
-    bytes: &[u8],
+    bytes: &ArchiveBytes,
 ) -> Option<Reply>
     ensures { MatchOption result (IsToStore cluster.now place.now dir.now stamp index bytes.now) (IsKnown cluster.now place.now dir.now stamp index bytes.now) }
 {

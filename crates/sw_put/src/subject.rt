@@ -4,8 +4,8 @@ ghost use Rattle.std.specs.Prelude.{◌≡◌, ◌+◌, ◌<◌, IfOk};
 ghost use Rattle.sw_archive.specs.Put.{put_archive, put_seals};
 
 use std::alloc::Global;
-use sw_archive::{make_sealed_archive, seals};
-use sw_types::{Bytes, Name, NoMemory, Object, Policy, Stamp};
+use sw_archive::{ArchiveBytes, make_sealed_archive, seals};
+use sw_types::{Name, NoMemory, Object, Policy, Stamp};
 
 /// An object, and what it is put with. Each archive is made of it when it goes out, and none is kept but for the MD5 that
 /// ends it, since those of all are computed faster together.
@@ -46,7 +46,7 @@ impl Subject {
     }
 
     /// The archive of an index.
-    pub(crate) fn archive(&self, alloc: Global, index: u32) -> Result<Bytes, NoMemory>
+    pub(crate) fn archive(&self, alloc: Global, index: u32) -> Result<ArchiveBytes, NoMemory>
         requires { index < self.now.policy.k + self.now.policy.m }
         ensures { IfOk result (λ bytes. bytes ≡ put_archive self.now.policy self.now.stamp self.now.name self.now.object index) }
     {

@@ -230,7 +230,7 @@ fn spoil_of(
         return None;
     };
     let Entry { stamp, index, .. } = course.entry;
-    match check_asked(cluster, place, stamp, index, bytes.as_slice()) {
+    match check_asked(cluster, place, stamp, index, bytes) {
         Ok(_) => None,
         Err(spoil) => Some(spoil),
     }

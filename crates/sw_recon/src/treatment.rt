@@ -6,6 +6,7 @@ ghost use Rattle.sw_recon.specs.Standing.{handed_treatment};
 
 use std::alloc::Global;
 use std::mem::replace;
+use sw_archive::ArchiveBytes;
 use sw_hashdir::Entry;
 use sw_hashpath::Place;
 use sw_message::Msg;
@@ -19,7 +20,7 @@ pub enum Treatment {
     /// It fetches the archive from its own device,
     Fetch,
     /// has the primary store it, until the bytes were handed out,
-    Store(Bytes),
+    Store(ArchiveBytes),
     /// has the primary make it durable,
     Commit,
     /// and has its own device remove it.
@@ -54,7 +55,7 @@ impl Treatment {
                 place,
                 stamp,
                 index,
-                bytes: replace(bytes, Bytes::new(alloc)),
+                bytes: replace(bytes, ArchiveBytes::new(Bytes::new(alloc))),
             },
             Treatment::Commit => Msg::Commit {
                 place,

@@ -13,12 +13,12 @@ use crate::errand::Errand;
 use crate::repair::Repair;
 use std::alloc::Global;
 use std::collections::VecDeque;
-use sw_archive::Archive;
+use sw_archive::{Archive, ArchiveBytes};
 use sw_gather::has_target;
 use sw_hashpath::Place;
 use sw_message::{Foreign, Miss, Reply, Spoil, Target, check_asked};
 use sw_ring::Cluster;
-use sw_types::{Bytes, NoMemory, Policy};
+use sw_types::{NoMemory, Policy};
 
 impl Repair {
     /// Takes the answer of a source, or that there is none. Where k archives are there the others are due to be stored; where the
@@ -70,14 +70,14 @@ impl Repair {
         cluster: &Cluster,
         place: &Place,
         source: Target,
-        bytes: &Bytes,
+        bytes: &ArchiveBytes,
         due: &mut VecDeque<Errand>,
     ) -> Result<(), NoMemory>
         ensures ok { IfOk result (λ _. (meaning : Meaning) × IsRead cluster.now place.now self.old source.index bytes.now meaning
             × (self.new ≡ fetched self.old source meaning) × (due.new.items ≡ due.old.items ++ due_fetched cluster.now.policy.k self.old source meaning)) }
         ensures refused { OnErr result ((self.new ≡ self.old) × (due.new.items ≡ due.old.items)) }
     {
-        match check_asked(cluster, place, self.stamp, source.index, bytes.as_slice()) {
+        match check_asked(cluster, place, self.stamp, source.index, bytes) {
             Ok(spelled) => {
                 let archive = spelled.archive(alloc)?;
                 self.bring(alloc, cluster.policy(), source, archive, due)

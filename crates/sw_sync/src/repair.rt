@@ -15,12 +15,13 @@ use crate::sync_end::{Failure, SyncEnd};
 use std::alloc::Global;
 use std::collections::VecDeque;
 use std::marker::Model;
+use sw_archive::ArchiveBytes;
 use sw_gather::{Gathered, Mailbox, has_index};
 use sw_hashpath::Place;
 use sw_message::{Miss, Reply, Target};
 use sw_quorum::{Verdict, commit_verdict, store_verdict};
 use sw_ring::Cluster;
-use sw_types::{Bytes, Items, NoMemory, Stamp};
+use sw_types::{Items, NoMemory, Stamp};
 
 /// The entries of a stamp, which are made durable at primaries that list them, and rebuilt at those that lack theirs.
 #[derive(Debug, Drop)]
@@ -140,7 +141,7 @@ impl Repair {
     }
 
     /// The archive of an index, rebuilt from those that were brought.
-    pub(crate) fn rebuild(&self, alloc: Global, index: u32) -> Result<Bytes, NoMemory>
+    pub(crate) fn rebuild(&self, alloc: Global, index: u32) -> Result<ArchiveBytes, NoMemory>
         requires enough { AreEnough self.now.archives }
         requires index { All (λ archive. index < archive.k + archive.m) self.now.archives }
         ensures { IfOk result (λ bytes. IsRebuilt self.now.archives index bytes) }

@@ -9,7 +9,7 @@ use crate::tests::Answer::{
 use crate::{Failure, SyncEnd, SyncJob};
 use std::alloc::Global;
 use std::test::Fail;
-use sw_archive::make_archive;
+use sw_archive::{ArchiveBytes, make_archive};
 use sw_hashdir::{Floor, FloorKind, HashDir, Listing};
 use sw_message::{Foreign, Miss, Msg, Operation, Reply, Sent, Spoil, primaries};
 use sw_ring::Cluster;
@@ -59,7 +59,7 @@ fn is_among(devices: &[u16], device: u16) -> bool
 }
 
 // The archive of an index at a stamp of a body.
-fn archive(alloc: Global, units: u64, index: u32, body: &[u8]) -> Result<Bytes, Fail> {
+fn archive(alloc: Global, units: u64, index: u32, body: &[u8]) -> Result<ArchiveBytes, Fail> {
     let policy = Policy::make(2, 1, 3, 2, 4096)?;
     let stamp = Stamp::make(units).ok_or("stamp")?;
     let head = Head::make(alloc, b"text/plain", &[])?;

@@ -4,7 +4,7 @@ use Rattle.std.specs.List.{All}
 use Rattle.md5.specs.Md5.{md5}
 use Rattle.sw_types.specs.Object.{ObjectModel}
 use Rattle.sw_archive.specs.Archive.{ArchiveModel}
-use Rattle.sw_archive.specs.Assemble.{GivesObject, IsOther, IsTold}
+use Rattle.sw_archive.specs.Assemble.{GivesObject, IsTold}
 use Rattle.sw_archive.specs.Pieces.{IsDecoded}
 use Rattle.sw_archive.specs.declared.assemble.AssembleFault.{AssembleFault}
 use Rattle.sw_archive.specs.declared.assemble.AssembleFault.TheVariants.{BodyMd5}

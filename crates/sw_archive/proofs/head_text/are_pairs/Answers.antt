@@ -1,6 +1,6 @@
-use Rattle.std.proofs.Common.{◌≡◌, ◌+◌, [], ◌∷◌, ◌++◌, true, false, not, length, subst, arith, rules}
+use Rattle.std.proofs.Common.{◌≡◌, [], ◌∷◌, ◌++◌, subst, arith, rules}
 use Rattle.std.specs.Prelude.{IsTrue}
-use Rattle.sw_types.specs.Head.{FitsBehind, Pair}
+use Rattle.sw_types.specs.Head.{Pair}
 use Rattle.sw_archive.specs.Pairs.{AreFaultless}
 use Rattle.sw_archive.proofs.PairTexts.{all_or_none, faultless_more, faultless_none, fits_room, next_fits, none_further}
 use Rattle.sw_archive.proofs.head_text.are_pairs.Goals as goal

@@ -1,4 +1,4 @@
-use Rattle.std.proofs.Common.{rules, ◌≡◌, sym, subst}
+use Rattle.std.proofs.Common.{rules, sym, subst}
 use Rattle.sw_words.specs.Bytes.{IsBytes}
 use Rattle.sw_words.proofs.ByteLists.{IsBytes-drop, IsBytes-take}
 use Rattle.sw_archive.proofs.reading.check_behind.Goals as goal

@@ -35,7 +35,7 @@ remove-requires-clause-folder g c = short c.args.cluster.now c.args.msg.now c.in
 -- ---- about a place
 
 pub returns-in-PutFrag-clause-answered : goal.returns-in-PutFrag-clause-answered
-returns-in-PutFrag-clause-answered g c = rw (c.in-PutFrag.is, sym c.as_slice.ensures) (inl c.put_frag.ensures.handles)
+returns-in-PutFrag-clause-answered g c = rw c.in-PutFrag.is (inl c.put_frag.ensures.handles)
 
 pub returns-in-PutFrag-clause-order : goal.returns-in-PutFrag-clause-order
 returns-in-PutFrag-clause-order g c =

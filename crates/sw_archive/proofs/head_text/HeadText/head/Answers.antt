@@ -1,5 +1,5 @@
-use Rattle.std.proofs.Common.{◌≡◌, ◌∙◌, None, ap, sym, subst}
-use Rattle.sw_types.specs.Head.{HeadModel, head_fault}
+use Rattle.std.proofs.Common.{◌∙◌, ap}
+use Rattle.sw_types.specs.Head.{head_fault}
 use Rattle.sw_archive.proofs.PairTexts.{head_kept, pairs_there, same_head}
 use Rattle.sw_archive.proofs.head_text.HeadText.head.Goals as goal
 

@@ -1,5 +1,5 @@
-use Rattle.sw_archive.proofs.Faults.{fault_of_bytes, reads, refused}
-use Rattle.sw_archive.proofs.reading.check_archive.Goals as goal
+use Rattle.sw_archive.proofs.Faults.{reads, refused}
+use Rattle.sw_archive.proofs.reading.check_noted.Goals as goal
 
 pub returns-clause-reads : goal.returns-clause-reads
 returns-clause-reads c = reads c.args.bytes.now c.check_fields.result c.check_fields.ensures
