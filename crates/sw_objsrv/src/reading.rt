@@ -45,8 +45,14 @@ pub(crate) fn fetch<D: Disk>(
     let Some(entry) = looked.dir.entry(stamp, index) else {
         return Ok(Reply::Gone(looked.dir.listing(alloc)?));
     };
-    let bytes = ArchiveBytes::new(fetch_entry(alloc, disk, &looked.folder, entry)?);
-    Ok(reply_of(cluster, place, stamp, index, bytes))
+    let bytes = fetch_entry(alloc, disk, &looked.folder, entry)?;
+    Ok(reply_of(
+        cluster,
+        place,
+        stamp,
+        index,
+        ArchiveBytes::new(bytes),
+    ))
 }
 
 // The reply to bytes that were read. It takes no memory, so a spoiled archive is told.

@@ -38,7 +38,7 @@ returns-clause-handles g c =
     let place = c.args.place.now in
     inl (inr (fetched c.args.cluster.now place c.args.stamp c.args.index c.in_ok-looked.looked.dir entry.entry entry.ensures.0 entry.ensures.1 entry.ensures.2 g.D.Disk.seen g.D.Disk.left_since c.args.disk.now c.look_at.new.disk c.fetch.new.disk
     c.in_ok-looked.ensures.directory c.in_ok-looked.ensures.runs c.deref.result.now (c.deref.ensures ∙ c.in_ok-looked.ensures.folder) c.in_ok-bytes.bytes c.in_ok-bytes.ensures.bytes c.in_ok-bytes.ensures.runs
-    c.reply_of.result c.reply_of.ensures))
+    c.reply_of.result (rw c.new.ensures at c.reply_of.ensures)))
 
 pub returns-in_err-bytes-clause-handles : goal.returns-in_err-bytes-clause-handles
 returns-in_err-bytes-clause-handles g c =

@@ -68,9 +68,9 @@ returns-in_err-store-clause-handles g c =
     let within = told_each (g.D.Disk.seen a).told (λ (folder : List ℕ) s. size_of (s.folder folder) ≤ s.used) (g.met.D.Disk.within a) in
     let reason = c.in_err-store.field-0.0 in
     rw (p.1, p.2) (stored_refused c.args.stamp c.args.index c.in_ok-looked.looked.dir due.1 due.2 c.args.cluster.now place c.args.bytes.now due.0 g.D.Disk.seen g.D.Disk.left_since a b c.store.new.disk
-    c.in_ok-looked.ensures.directory within c.in_ok-looked.ensures.runs reason (λ need free is. c.in_err-store.ensures.full need free (ap (λ (r : DiskRefusal). err r) is)) (c.in_err-store.ensures.overfull reason refl)
-    (subst (λ (folder : List ℕ). Runs g.D.Disk.seen g.D.Disk.left_since (store_calls folder (plain_text c.args.stamp c.args.index) c.args.bytes.now) (Some reason) b c.store.new.disk) (c.deref.ensures ∙ c.in_ok-looked.ensures.folder) c.in_err-store.ensures.runs)
-    (c.in_err-store.ensures.early reason refl) (λ is. c.in_err-store.ensures.memory (ap (λ (r : DiskRefusal). err r) is)))
+    c.in_ok-looked.ensures.directory within c.in_ok-looked.ensures.runs reason (λ need free is. (rw c.as_slice.ensures at c.in_err-store.ensures.full) need free (ap (λ (r : DiskRefusal). err r) is)) ((rw c.as_slice.ensures at c.in_err-store.ensures.overfull) reason refl)
+    (subst (λ (folder : List ℕ). Runs g.D.Disk.seen g.D.Disk.left_since (store_calls folder (plain_text c.args.stamp c.args.index) c.args.bytes.now) (Some reason) b c.store.new.disk) (c.deref.ensures ∙ c.in_ok-looked.ensures.folder) (rw c.as_slice.ensures at c.in_err-store.ensures.runs))
+    ((rw c.as_slice.ensures at c.in_err-store.ensures.early) reason refl) (λ is. (rw c.as_slice.ensures at c.in_err-store.ensures.memory) (ap (λ (r : DiskRefusal). err r) is)))
 
 pub returns-in_err-store-clause-unmade : goal.returns-in_err-store-clause-unmade
 returns-in_err-store-clause-unmade g c = λ reason is other.
@@ -87,8 +87,8 @@ returns-clause-handles g c =
     let due = c.in_default.ensures in
     let within = told_each (g.D.Disk.seen a).told (λ (folder : List ℕ) s. size_of (s.folder folder) ≤ s.used) (g.met.D.Disk.within a) in
     inr (stored c.args.stamp c.args.index c.in_ok-looked.looked.dir due.1 due.2 c.args.cluster.now place c.args.bytes.now due.0 g.D.Disk.seen g.D.Disk.left_since a b c.store.new.disk
-    c.in_ok-looked.ensures.directory within c.in_ok-looked.ensures.runs c.in_ok-store.ensures.fits
-    (subst (λ (folder : List ℕ). Runs g.D.Disk.seen g.D.Disk.left_since (store_calls folder (plain_text c.args.stamp c.args.index) c.args.bytes.now) None b c.store.new.disk) (c.deref.ensures ∙ c.in_ok-looked.ensures.folder) c.in_ok-store.ensures.runs))
+    c.in_ok-looked.ensures.directory within c.in_ok-looked.ensures.runs (rw c.as_slice.ensures at c.in_ok-store.ensures.fits)
+    (subst (λ (folder : List ℕ). Runs g.D.Disk.seen g.D.Disk.left_since (store_calls folder (plain_text c.args.stamp c.args.index) c.args.bytes.now) None b c.store.new.disk) (c.deref.ensures ∙ c.in_ok-looked.ensures.folder) (rw c.as_slice.ensures at c.in_ok-store.ensures.runs)))
 
 pub returns-clause-order : goal.returns-clause-order
 returns-clause-order g c = λ primary floor order.

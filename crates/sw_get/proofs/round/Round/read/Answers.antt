@@ -1,5 +1,5 @@
 -- Bytes that were read mean an archive, or are a miss.
-use Rattle.std.proofs.Common.{List, ℕ, sym, subst}
+use Rattle.std.proofs.Common.{sym, subst}
 use Rattle.sw_archive.specs.Archive.{ArchiveModel}
 use Rattle.sw_message.specs.declared.miss.Miss.TheVariants as miss
 use Rattle.sw_get.specs.Meaning.{IsJoined, IsRead, IsWanted, Misses, Wanted}
@@ -12,9 +12,8 @@ returns-in_ok-archive-in-Ok-clause-ok c =
     let others = c.args.self.now.facts.archives in
     let bytes = c.args.bytes.now in
     let archive = c.in_ok-archive-in-Ok.archive in
-    let found = subst (λ (these : List ℕ). IsWanted wanted c.args.source.index these c.in-Ok.spelled) c.as_slice.ensures c.in-Ok.ensures.found in
     weaker c.bring.result c.args.self.now c.bring.new.self c.args.source (λ m. IsJoined c.args.policy.now others archive m) (λ m. IsRead wanted others c.args.source.index bytes m)
-    (read_joined wanted others c.args.source.index bytes archive (subst (λ (a : ArchiveModel). IsWanted wanted c.args.source.index bytes a) (sym c.in_ok-archive-in-Ok.ensures) found))
+    (read_joined wanted others c.args.source.index bytes archive (subst (λ (a : ArchiveModel). IsWanted wanted c.args.source.index bytes a) (sym c.in_ok-archive-in-Ok.ensures) c.in-Ok.ensures.found))
     c.bring.ensures.ok
 
 pub returns-in-Err-clause-ok : goal.returns-in-Err-clause-ok
@@ -23,6 +22,5 @@ returns-in-Err-clause-ok c =
     let others = c.args.self.now.facts.archives in
     let spoil = c.in-Err.spoil in
     told c.miss.result c.args.self.now c.miss.new.self c.args.source (λ m. IsRead wanted others c.args.source.index c.args.bytes.now m) (Misses (miss.Spoiled spoil))
-    (subst (λ (bytes : List ℕ). IsRead wanted others c.args.source.index bytes (Misses (miss.Spoiled spoil))) c.as_slice.ensures
-    (read_spoil wanted others c.args.source.index c.as_slice.result.now spoil c.in-Err.ensures.refused))
+    (read_spoil wanted others c.args.source.index c.args.bytes.now spoil c.in-Err.ensures.refused)
     c.miss.ensures.ok
