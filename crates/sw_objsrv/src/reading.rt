@@ -46,13 +46,7 @@ pub(crate) fn fetch<D: Disk>(
         return Ok(Reply::Gone(looked.dir.listing(alloc)?));
     };
     let bytes = fetch_entry(alloc, disk, &looked.folder, entry)?;
-    Ok(reply_of(
-        cluster,
-        place,
-        stamp,
-        index,
-        ArchiveBytes::new(bytes),
-    ))
+    Ok(reply_of(cluster, place, stamp, index, ArchiveBytes::new(bytes)))
 }
 
 // The reply to bytes that were read. It takes no memory, so a spoiled archive is told.
