@@ -59,8 +59,8 @@ impl Repairs {
         }
     }
 
-    /// Waits until they are there.
-    pub(crate) fn wait(&self) {
+    // Waits until they are there.
+    fn wait(&self) {
         wait_for(&self.are_there, &self.gave_up);
     }
 }
@@ -103,6 +103,67 @@ impl Gate for RepairGate {
             if self.accepted.fetch_add(1, Ordering::SeqCst) == 1 {
                 self.repairs.wait();
             }
+        }
+    }
+}
+
+/// A gate that holds worker 1, which repairs, at its first message until two connections have ended.
+#[derive(Drop)]
+pub(crate) struct EndsGate {
+    least: u64,
+    answers: AtomicU64,
+    is_repairing: AtomicBool,
+    have_ended: AtomicBool,
+    are_there: AtomicBool,
+    pub(crate) gave_up: AtomicBool,
+}
+
+impl EndsGate {
+    pub(crate) fn new(least: u64) -> EndsGate {
+        EndsGate {
+            least,
+            answers: AtomicU64::new(0),
+            is_repairing: AtomicBool::new(false),
+            have_ended: AtomicBool::new(false),
+            are_there: AtomicBool::new(false),
+            gave_up: AtomicBool::new(false),
+        }
+    }
+
+    /// Holds who asks for a second connection until worker 1 sends a message, and who asks for a third one until it has so many
+    /// answers.
+    pub(crate) fn hold(&self, asked: u64) {
+        if asked == 2 {
+            wait_for(&self.is_repairing, &self.gave_up);
+        }
+        if asked == 3 {
+            self.have_ended.store(true, Ordering::SeqCst);
+            wait_for(&self.are_there, &self.gave_up);
+        }
+    }
+
+    /// How many answers worker 1 has.
+    pub(crate) fn answers(&self) -> u64 {
+        self.answers.load(Ordering::SeqCst)
+    }
+}
+
+impl Gate for EndsGate {
+    fn at(&self, worker: u16, point: GatePoint) {
+        match (worker, point) {
+            // A pass that began before the first end would find nothing meanwhile, and send no message.
+            (0, GatePoint::Accepted) => linger(),
+            (1, GatePoint::BeforeMessage) => {
+                self.is_repairing.store(true, Ordering::SeqCst);
+                wait_for(&self.have_ended, &self.gave_up);
+            }
+            (1, GatePoint::Answered) => {
+                let before = self.answers.fetch_add(1, Ordering::SeqCst);
+                if before.saturating_add(1) == self.least {
+                    self.are_there.store(true, Ordering::SeqCst);
+                }
+            }
+            _ => {}
         }
     }
 }
@@ -203,6 +264,13 @@ impl Gate for RaceGate {
             GatePoint::Answered if !is_first => self.answer(),
             _ => {}
         }
+    }
+}
+
+// Lets others go on for a while.
+fn linger() {
+    for _ in 0..1_000 {
+        yield_now();
     }
 }
 

@@ -2,24 +2,24 @@
 
 ghost use Rattle.std.specs.Prelude.{◌≡◌};
 
-use crate::gates::Repairs;
+use crate::gates::EndsGate;
 use sw_io::{DoorFailed, Doors, MemConn, MemDoors};
 
-/// Doors in memory that answer the second `accept` only once the worker that repairs has its answers.
+/// Doors in memory at which a gate holds who asks for a connection.
 #[derive(Drop)]
 pub(crate) struct HeldDoors<'a> {
     pub(crate) doors: MemDoors,
-    repairs: &'a Repairs,
+    gate: &'a EndsGate,
     asked: u64,
 }
 
 impl<'a> HeldDoors<'a> {
-    pub(crate) fn new(doors: MemDoors, repairs: &'a Repairs) -> HeldDoors<'a>
+    pub(crate) fn new(doors: MemDoors, gate: &'a EndsGate) -> HeldDoors<'a>
         ensures { result.doors ≡ doors }
     {
         HeldDoors {
             doors,
-            repairs,
+            gate,
             asked: 0,
         }
     }
@@ -48,9 +48,7 @@ impl<'a> Doors for HeldDoors<'a> {
 
     fn accept(&mut self, done: Option<MemConn>) -> Result<Option<MemConn>, DoorFailed> {
         self.asked = self.asked.saturating_add(1);
-        if self.asked == 2 {
-            self.repairs.wait();
-        }
+        self.gate.hold(self.asked);
         self.doors.accept(done)
     }
 }

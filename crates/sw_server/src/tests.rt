@@ -2,7 +2,7 @@
 
 ghost use Rattle.std.specs.Prelude.{◌≡◌, ◌≤◌, [], IfOk, ⊤};
 
-use crate::gates::{CrowdGate, NotingGate, RaceGate, RepairGate, Repairs};
+use crate::gates::{CrowdGate, EndsGate, NotingGate, RaceGate, RepairGate};
 use crate::held_doors::HeldDoors;
 use crate::{ServeEnd, serve};
 use std::alloc::Global;
@@ -35,8 +35,10 @@ const REPAIRED: [Option<&str>; 4] = [
     None,
 ];
 
-// So many messages the passes of the four devices send where one fragment is at a handoff.
+// So many messages the passes of the four devices send where one fragment is at a handoff, and where each is at its primary.
 const REPAIRS: u64 = 28;
+
+const PASS: u64 = 16;
 
 // What fails: the output and the doors, behind so many writes and calls; the disk of a device, which is refused, or one of whose
 // calls is.
@@ -263,25 +265,16 @@ fn repairs_without_a_last_pass(rt: HostRuntime) -> Result<(), Fail> {
     Ok(())
 }
 
-// The worker that repairs makes passes while connections are served.
+// A worker tells of each end before it asks for another connection, and behind each comes a whole pass, beside connections: the first one
+// is held until the second end was told of. The doors fail then.
 #[test]
-fn repairs_beside_connections(rt: HostRuntime) -> Result<(), Fail> {
-    let clock = MemClock::new(beginning()?);
-    let gate = RepairGate::new(1);
-    let served = serve_requests(&rt, rt.alloc(), &[PUT, PUT], 1, NOTHING, &clock, &gate)?;
-    assert!(&rt; !gate.repairs.gave_up.load(Ordering::SeqCst));
-    assert_eq!(&rt; served.end, ServeEnd::Closed { count: 2 });
-    assert_eq!(&rt; served.output.bytes(), "ready\nclosed 2\n".as_bytes());
-    Ok(())
-}
-
-// A worker tells of an end before it asks for another connection: the doors answer once a pass behind it sent a message.
-#[test]
-fn tells_of_an_end_before_it_asks(rt: HostRuntime) -> Result<(), Fail> {
+fn a_pass_comes_behind_each_end(rt: HostRuntime) -> Result<(), Fail> {
     let alloc = rt.alloc();
     let clock = MemClock::new(beginning()?);
-    let repairs = Repairs::new(1);
-    let mut doors = HeldDoors::new(doors_for(alloc, &[PUT])?, &repairs);
+    let gate = EndsGate::new(2 * PASS);
+    let mut inner = doors_for(alloc, &[PUT, GET])?;
+    inner.fuse(3);
+    let mut doors = HeldDoors::new(inner, &gate);
     let end = serve(
         &rt,
         alloc,
@@ -292,11 +285,52 @@ fn tells_of_an_end_before_it_asks(rt: HostRuntime) -> Result<(), Fail> {
         &mut MemShelf::new(alloc),
         &mut doors,
         &clock,
-        &repairs,
+        &gate,
     );
-    assert!(&rt; !repairs.gave_up.load(Ordering::SeqCst));
-    assert_eq!(&rt; end, ServeEnd::Closed { count: 1 });
-    assert_eq!(&rt; doors.doors.back().len(), 1);
+    assert!(&rt; !gate.gave_up.load(Ordering::SeqCst));
+    assert_eq!(&rt; end, ServeEnd::DoorFault);
+    assert_eq!(&rt; doors.doors.back().len(), 2);
+    assert_eq!(&rt; gate.answers(), 2 * PASS);
+    Ok(())
+}
+
+// A worker takes back a connection that failed, and serves the next one.
+#[test]
+fn serves_behind_a_connection_that_fails(rt: HostRuntime) -> Result<(), Fail> {
+    let alloc = rt.alloc();
+    let clock = MemClock::new(beginning()?);
+    let mut failing = MemConn::new(alloc, PUT.as_bytes().to_vec(alloc)?);
+    failing.fuse(0);
+    let whole = MemConn::new(alloc, PUT.as_bytes().to_vec(alloc)?);
+    let mut doors = MemDoors::new(alloc, vec![in alloc; failing, whole]?)?;
+    let end = serve(
+        &rt,
+        alloc,
+        Cluster::read(alloc, built_in())?,
+        8080,
+        1,
+        &mut MemSink::new(alloc),
+        &mut MemShelf::new(alloc),
+        &mut doors,
+        &clock,
+        &OpenGate,
+    );
+    assert_eq!(&rt; end, ServeEnd::Closed { count: 2 });
+    let faults: Vec<u64> = doors
+        .back()
+        .iter()
+        .map(|conn| conn.faults())
+        .collect(alloc)?;
+    assert_eq!(&rt; faults.as_slice(), [1, 0].as_slice());
+    let answer = "HTTP/1.1 201 Created".as_bytes();
+    assert_eq!(&rt;
+        doors
+            .back()
+            .iter()
+            .filter(|conn| conn.written().starts_with(answer))
+            .count(),
+        1
+    );
     Ok(())
 }
 
@@ -402,14 +436,24 @@ fn more_workers_than_connections(rt: HostRuntime) -> Result<(), Fail> {
     Ok(())
 }
 
-// Each of sixteen workers has a connection while all others have one.
+// Each of three workers, and of sixteen, has a connection while all others have one.
 #[test]
-fn sixteen_workers_at_once(rt: HostRuntime) -> Result<(), Fail> {
-    let clock = MemClock::new(beginning()?);
-    let gate = CrowdGate::new(16);
-    let requests = [GET; 16];
-    let served = serve_requests(&rt, rt.alloc(), &requests, 16, NOTHING, &clock, &gate)?;
-    assert!(&rt; !gate.gave_up.load(Ordering::SeqCst));
-    assert_eq!(&rt; served.end, ServeEnd::Closed { count: 16 });
+fn as_many_connections_at_once_as_workers(rt: HostRuntime) -> Result<(), Fail> {
+    for (workers, count) in [(3, 3), (16, 16)] {
+        let clock = MemClock::new(beginning()?);
+        let gate = CrowdGate::new(count);
+        let requests = [GET; 16];
+        let served = serve_requests(
+            &rt,
+            rt.alloc(),
+            &requests[..usize::from(workers)],
+            workers,
+            NOTHING,
+            &clock,
+            &gate,
+        )?;
+        assert!(&rt; !gate.gave_up.load(Ordering::SeqCst));
+        assert_eq!(&rt; served.end, ServeEnd::Closed { count });
+    }
     Ok(())
 }
