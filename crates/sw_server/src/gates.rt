@@ -107,14 +107,16 @@ impl Gate for RepairGate {
     }
 }
 
-/// A gate that holds worker 1, which repairs, at its first message until two connections have ended.
+/// A gate that holds worker 1, which repairs, at its first message until two connections have ended, and lingers with worker 0.
 #[derive(Drop)]
 pub(crate) struct EndsGate {
     least: u64,
+    served: AtomicU64,
     answers: AtomicU64,
     is_repairing: AtomicBool,
     have_ended: AtomicBool,
     are_there: AtomicBool,
+    pub(crate) was_early: AtomicBool,
     pub(crate) gave_up: AtomicBool,
 }
 
@@ -122,10 +124,12 @@ impl EndsGate {
     pub(crate) fn new(least: u64) -> EndsGate {
         EndsGate {
             least,
+            served: AtomicU64::new(0),
             answers: AtomicU64::new(0),
             is_repairing: AtomicBool::new(false),
             have_ended: AtomicBool::new(false),
             are_there: AtomicBool::new(false),
+            was_early: AtomicBool::new(false),
             gave_up: AtomicBool::new(false),
         }
     }
@@ -146,23 +150,34 @@ impl EndsGate {
     pub(crate) fn answers(&self) -> u64 {
         self.answers.load(Ordering::SeqCst)
     }
+
+    // Worker 1 sends a message, too early where worker 0 has not yet the six answers of its first put.
+    fn repair(&self) {
+        if self.served.load(Ordering::SeqCst) < 6 {
+            self.was_early.store(true, Ordering::SeqCst);
+        }
+        self.is_repairing.store(true, Ordering::SeqCst);
+        wait_for(&self.have_ended, &self.gave_up);
+    }
+
+    // Worker 1 has an answer.
+    fn answer(&self) {
+        let before = self.answers.fetch_add(1, Ordering::SeqCst);
+        if before.saturating_add(1) == self.least {
+            self.are_there.store(true, Ordering::SeqCst);
+        }
+    }
 }
 
 impl Gate for EndsGate {
     fn at(&self, worker: u16, point: GatePoint) {
         match (worker, point) {
-            // A pass that began before the first end would find nothing meanwhile, and send no message.
-            (0, GatePoint::Accepted) => linger(),
-            (1, GatePoint::BeforeMessage) => {
-                self.is_repairing.store(true, Ordering::SeqCst);
-                wait_for(&self.have_ended, &self.gave_up);
+            (0, GatePoint::Accepted) | (0, GatePoint::BeforeMessage) => linger(),
+            (0, GatePoint::Answered) => {
+                self.served.fetch_add(1, Ordering::SeqCst);
             }
-            (1, GatePoint::Answered) => {
-                let before = self.answers.fetch_add(1, Ordering::SeqCst);
-                if before.saturating_add(1) == self.least {
-                    self.are_there.store(true, Ordering::SeqCst);
-                }
-            }
+            (1, GatePoint::BeforeMessage) => self.repair(),
+            (1, GatePoint::Answered) => self.answer(),
             _ => {}
         }
     }
@@ -269,7 +284,7 @@ impl Gate for RaceGate {
 
 // Lets others go on for a while.
 fn linger() {
-    for _ in 0..1_000 {
+    for _ in 0..10_000 {
         yield_now();
     }
 }

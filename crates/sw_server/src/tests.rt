@@ -288,6 +288,7 @@ fn a_pass_comes_behind_each_end(rt: HostRuntime) -> Result<(), Fail> {
         &gate,
     );
     assert!(&rt; !gate.gave_up.load(Ordering::SeqCst));
+    assert!(&rt; !gate.was_early.load(Ordering::SeqCst));
     assert_eq!(&rt; end, ServeEnd::DoorFault);
     assert_eq!(&rt; doors.doors.back().len(), 2);
     assert_eq!(&rt; gate.answers(), 2 * PASS);
