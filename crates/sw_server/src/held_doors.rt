@@ -1,6 +1,8 @@
 //! Doors that hold who asks for a connection, for tests.
 
-ghost use Rattle.std.specs.Prelude.{◌≡◌};
+ghost use Rattle.std.specs.Prelude.{◌≡◌, ◌∷◌, [], true, false, IfOk, IfSome, is_ok};
+ghost use Rattle.sw_words.specs.Counts.{CountsFailure, FailsByCount};
+ghost use Rattle.sw_io.specs.Doors.{HandsOut, TakesBack, handed_after};
 
 use crate::gates::EndsGate;
 use sw_io::{DoorFailed, Doors, MemConn, MemDoors};
@@ -42,11 +44,32 @@ impl<'a> Doors for HeldDoors<'a> {
 
     ghost faults = { λ it. it.doors.faults };
 
-    fn open(&mut self, port: u16) -> Result<(), DoorFailed> {
+    fn open(&mut self, port: u16) -> Result<(), DoorFailed>
+        requires { self.old.doors.ports ≡ [] }
+        ensures ports { self.new.doors.ports ≡ port ∷ [] }
+        ensures opened { self.new.doors.is_open ≡ is_ok result }
+        ensures handed { self.new.doors.handed ≡ self.old.doors.handed }
+        ensures back { Some self.new.doors.back ≡ Some self.old.doors.back }
+        ensures left { Some self.new.doors.left ≡ Some self.old.doors.left }
+        ensures cause { FailsByCount self.old.doors.faults self.new.doors.faults result }
+        ensures counted { CountsFailure self.old.doors.faults self.new.doors.faults result }
+    {
         self.doors.open(port)
     }
 
-    fn accept(&mut self, done: Option<MemConn>) -> Result<Option<MemConn>, DoorFailed> {
+    fn accept(&mut self, done: Option<MemConn>) -> Result<Option<MemConn>, DoorFailed>
+        requires { self.old.doors.is_open ≡ true }
+        ensures back { TakesBack (Some self.old.doors.back) (Some self.new.doors.back) done result }
+        ensures left { HandsOut (Some self.old.doors.left) (Some self.new.doors.left) result }
+        ensures handed { self.new.doors.handed ≡ handed_after self.old.doors.handed result }
+        ensures no_fault { IfOk result (λ next. IfSome next (λ conn. conn.faults ≡ 0)) }
+        ensures not_closed { IfOk result (λ next. IfSome next (λ conn. conn.is_closed ≡ false)) }
+        ensures not_written { IfOk result (λ next. IfSome next (λ conn. IfSome (Some conn.written) (λ bytes. bytes ≡ []))) }
+        ensures ports { self.new.doors.ports ≡ self.old.doors.ports }
+        ensures is_open { self.new.doors.is_open ≡ self.old.doors.is_open }
+        ensures cause { FailsByCount self.old.doors.faults self.new.doors.faults result }
+        ensures counted { CountsFailure self.old.doors.faults self.new.doors.faults result }
+    {
         self.asked = self.asked.saturating_add(1);
         self.gate.hold(self.asked);
         self.doors.accept(done)
