@@ -34,6 +34,11 @@ HaveMounted seen left_since cluster [] [] [] = ⊤
 HaveMounted seen left_since cluster (device ∷ devices) (disk ∷ given) (node ∷ nodes) = Mounts seen left_since cluster device.id None disk node.disk × HaveMounted seen left_since cluster devices given nodes
 HaveMounted seen left_since cluster devices given nodes = ⊥
 
+-- Each device's own disk was mounted for it.
+pub record AreMounted {D : Type 0} (seen : D → Seen) (left_since : D → Past) (cluster : ClusterModel) (given : List D) : Type 0 where
+  pub nodes : List (NodeModel D)
+  pub mounted : HaveMounted seen left_since cluster cluster.devices given nodes
+
 -- The disk of each of these devices was mounted, up to the one that failed, and those behind it are as they were given.
 abbrev pub FailsAt : {D : Type 0} → (D → Seen) → (D → Past) → ClusterModel → (failed : ℕ) → List Device → (given back : List D) → Type 0
 FailsAt seen left_since cluster failed (device ∷ devices) (disk ∷ disks) (came ∷ others) =

@@ -10,7 +10,7 @@ ghost use Rattle.sw_pass.specs.Known.{HasSlot, slot_of};
 ghost use Rattle.sw_cell.specs.Calling.{IsCalled, MayCall};
 ghost use Rattle.sw_cell.specs.Cells.{ComesBack};
 ghost use Rattle.sw_cell.specs.Learning.{HasGrown, HasLearnt};
-ghost use Rattle.sw_cell.specs.Mounting.{AreEmpty, HasBegun, HaveBegun, IsRefusal};
+ghost use Rattle.sw_cell.specs.Mounting.{AreEmpty, AreMounted, HasBegun, HaveBegun, IsRefusal};
 ghost use Rattle.sw_cell.specs.Standing.{IsDiskOf, IsReplaced};
 
 use crate::locked::Locked;
@@ -63,6 +63,7 @@ impl<D: Disk + Drop, C: OfCluster, J: Site> Cells<D, C, J> {
         requires cluster { cluster ≡ C.cluster }
         requires empty { AreEmpty D.seen C.cluster disks.items }
         ensures pass { pass.new ≡ pass.old }
+        ensures mounted { IfOk result (λ cells. AreMounted D.seen D.left_since C.cluster disks.items) }
         ensures refused { IfErr result (IsRefusal D.seen D.left_since C.cluster disks.items) }
     {
         let Ok(room) = Vec::with_capacity(alloc, cluster.devices().len()) else {

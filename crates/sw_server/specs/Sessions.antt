@@ -5,6 +5,7 @@ use Rattle.sw_words.specs.Counts.{one_more}
 use Rattle.sw_shelf.specs.Shelf.{with_all}
 use Rattle.sw_pass.specs.declared.known.Known.{Known}
 use Rattle.sw_cell.specs.Learning.{HasLearnt}
+use Rattle.sw_cell.specs.Mounting.{AreMounted}
 use Rattle.sw_cell.specs.Standing.{IsDiskOf}
 use Rattle.sw_serve.specs.Serving.{IsProperFront}
 use Rattle.sw_server.specs.Acceptor.{HasServed}
@@ -107,6 +108,7 @@ module _ {S D A N T : Type 0} (shelf : ShelfMembers S D) (doors : DoorsMembers A
   pub record Session (end : ServeEnd) (stock' : S) (after : A) (told : List ℕ) : Type 0 where
     pub given : List D
     pub handed : AreHanded shelf.seen shelf.hands serving.cluster.devices given
+    pub mounted : AreMounted shelf.seen shelf.left_since serving.cluster given
     pub last : Known
     pub serves : ServesOver doors serving clock port before end after last told
     pub final : Known

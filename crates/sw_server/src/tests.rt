@@ -40,14 +40,14 @@ const REPAIRS: u64 = 28;
 
 const PASS: u64 = 16;
 
-// What fails: the output and the doors, behind so many writes and calls; the disk of a device, which is refused, or one of whose
-// calls is.
+// What fails: the output and the doors, behind so many writes and calls; the disk of a device, which is refused, or whose calls fail
+// from one number to another.
 #[derive(Clone, Copy, Debug)]
 struct Failing {
     writes: u64,
     calls: u64,
     refused: u16,
-    broken: (u16, u64),
+    broken: (u16, u64, u64),
 }
 
 // Nothing does: no device has this number.
@@ -55,7 +55,7 @@ const NOTHING: Failing = Failing {
     writes: u64::MAX,
     calls: u64::MAX,
     refused: 9,
-    broken: (9, 1),
+    broken: (9, 1, 1),
 };
 
 // What a run left.
@@ -102,8 +102,8 @@ fn serve_requests<T: Clock + Send + Sync, G: Gate + Sync, R: Threads + Wait + Sy
     output.fuse(failing.writes);
     doors.fuse(failing.calls);
     shelf.refuse(failing.refused);
-    let (device, number) = failing.broken;
-    shelf.fail_at(device, vec![in alloc; number]?);
+    let (device, first, last) = failing.broken;
+    shelf.fail_at(device, (first..=last).collect(alloc)?);
     let end = serve(
         rt,
         alloc,
@@ -209,7 +209,7 @@ fn serves_up_to_the_last_connection_or_a_failure(rt: HostRuntime) -> Result<(), 
         ),
         (
             Failing {
-                broken: (3, 1),
+                broken: (3, 1, 1),
                 ..none
             },
             ServeEnd::ShelfFault,
@@ -238,7 +238,7 @@ fn expect_files(rt: &impl Abort, served: &Served, names: [Option<&str>; 4]) {
 #[test]
 fn repairs_at_last(rt: HostRuntime) -> Result<(), Fail> {
     let failing = Failing {
-        broken: (1, 3),
+        broken: (1, 3, 3),
         ..NOTHING
     };
     let clock = MemClock::new(beginning()?);
@@ -248,12 +248,28 @@ fn repairs_at_last(rt: HostRuntime) -> Result<(), Fail> {
     Ok(())
 }
 
+// A disk goes on failing: it is that of its own device, from its mount to its return, which has no fragment then.
+#[test]
+fn each_disk_is_its_devices_own(rt: HostRuntime) -> Result<(), Fail> {
+    let failing = Failing {
+        broken: (1, 3, 99),
+        ..NOTHING
+    };
+    let clock = MemClock::new(beginning()?);
+    let served = serve_requests(&rt, rt.alloc(), &[PUT], 1, failing, &clock, &OpenGate)?;
+    assert_eq!(&rt; served.end, ServeEnd::Closed { count: 1 });
+    let [first, _, third, _] = REPAIRED;
+    let handed = Some("1000000000.00000#1.data");
+    expect_files(&rt, &served, [first, None, third, handed]);
+    Ok(())
+}
+
 // The doors fail, so that there is no last pass: a pass behind the first connection brought the fragment home while the second one was held.
 #[test]
 fn repairs_without_a_last_pass(rt: HostRuntime) -> Result<(), Fail> {
     let failing = Failing {
         calls: 3,
-        broken: (1, 3),
+        broken: (1, 3, 3),
         ..NOTHING
     };
     let clock = MemClock::new(beginning()?);

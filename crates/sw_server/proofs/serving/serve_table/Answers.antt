@@ -54,6 +54,7 @@ returns-in-Ok-new-clause-serves g c =
         did = inl (record {
           given = c.in-Ok-take_disks.disks.items;
           handed = subst (λ (cluster : ClusterModel). AreHanded g.F.Disk.Disk.seen g.F.Shelf.hands cluster.devices c.in-Ok-take_disks.disks.items) c.requires.cluster c.in-Ok-take_disks.ensures.handed;
+          mounted = c.in-Ok-new.ensures.mounted;
           last = c.serve_over-pass.result.0.known;
           serves = over.2;
           final = c.close.new.pass.known;
