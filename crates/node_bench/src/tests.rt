@@ -1,4 +1,4 @@
-//! Messages to a primary and to a handoff, a folder of many names, a full disk, what is mounted, and bytes that are not the
+//! Messages to a primary and to a handoff, a disk that fails or stops within them, a folder of many names, a full disk, what is mounted, and bytes that are not the
 //! archive.
 
 use crate::object::{Request, archive, put_frag, stamp};
@@ -145,6 +145,115 @@ const HANDOFF: [(Request, &str); 16] = [
 fn answers_as_a_handoff(rt: HostRuntime) -> Result<(), Fail> {
     let mut server = fresh(rt.alloc(), 3, 1 << 20)?;
     expect_all(&rt, &mut server, &HANDOFF)?;
+    Ok(())
+}
+
+// Messages to a handoff, its answers, and what it has behind each.
+const SCRIPT: [(Request, &str, &str); 7] = [
+    (
+        Request::PutFrag(0, 2),
+        "synced",
+        "held (1000000000.00000 2 plain)",
+    ),
+    (
+        Request::Commit(0, 2),
+        "committed",
+        "held (1000000000.00000 2 durable)",
+    ),
+    (
+        Request::PutFrag(1, 0),
+        "synced",
+        "held (1000000000.00000 2 durable) (1000000000.00001 0 plain)",
+    ),
+    (
+        Request::Commit(1, 0),
+        "committed",
+        "held (1000000000.00000 2 durable) (1000000000.00001 0 durable)",
+    ),
+    (
+        Request::Fetch(1, 0),
+        "fragment of 103 bytes",
+        "held (1000000000.00000 2 durable) (1000000000.00001 0 durable)",
+    ),
+    (
+        Request::Delete(2),
+        "deleted yes",
+        "held (1000000000.00000 2 durable) (1000000000.00001 0 durable) (1000000000.00002 tombstone)",
+    ),
+    (Request::Remove(0, 2), "removed", LAST),
+];
+
+const LAST: &str = "held (1000000000.00001 0 durable) (1000000000.00002 tombstone)";
+
+const FAULT: &str = "disk-fault";
+
+// So many device calls they make, with that of the mount.
+const CALLS: u64 = 27;
+
+// Sends them, each one again that a failure answered, over a disk one of whose calls fails, and answers how many failures there were.
+fn run_failing(rt: &(impl Abort + AllocGlobal), call: u64) -> Result<u32> {
+    let alloc = rt.alloc();
+    let disk = MemDisk::new(alloc, 1 << 20, vec![in alloc; call]?);
+    let mut server = Server::start(alloc, 3, disk)?;
+    let mut faults = 0u32;
+    for (request, text, _) in SCRIPT {
+        let told = request.tell(alloc, &mut server)?;
+        if told.as_str() == FAULT {
+            faults = faults.saturating_add(1);
+            request.tell(alloc, &mut server)?;
+        } else {
+            assert_eq!(rt; told.as_str(), text, "call {call}");
+        }
+    }
+    if faults > 0 {
+        expect_all(rt, &mut server, &[(Request::Ask, LAST)])?;
+    }
+    Ok(faults)
+}
+
+// Each device call behind the mount fails once: one message is answered so, and once it came again all is as if none had failed.
+#[test]
+fn each_device_call_fails(rt: HostRuntime) -> Result<(), Fail> {
+    for call in 2..=CALLS {
+        assert_eq!(rt; run_failing(&rt, call)?, 1, "call {call}");
+    }
+    assert_eq!(rt; run_failing(&rt, CALLS + 1)?, 0);
+    Ok(())
+}
+
+// Sends them over a disk that stops behind so many calls, crashes then, and keeps so many changes of names: what is mounted is what was
+// there before the message within which it stopped, or behind that. Answers whether it stopped.
+fn run_stopped(rt: &(impl Abort + AllocGlobal), calls: u64, pick: u64) -> Result<bool> {
+    let alloc = rt.alloc();
+    let mut disk = MemDisk::new(alloc, 1 << 20, Vec::new(alloc));
+    disk.fuse(calls);
+    let mut server = Server::start(alloc, 3, disk)?;
+    let mut before = "held";
+    for (request, _, after) in SCRIPT {
+        let told = request.tell(alloc, &mut server)?;
+        if told.as_str() == FAULT {
+            let mut disk = server.stop();
+            disk.crash(pick);
+            let mut server = Server::start(alloc, 3, disk)?;
+            let has = Request::Ask.tell(alloc, &mut server)?;
+            assert!(rt;
+                [before, after].contains(&has.as_str()),
+                "behind {calls}, {pick}"
+            );
+            return Ok(true);
+        }
+        before = after;
+    }
+    Ok(false)
+}
+
+#[test]
+fn stops_behind_each_device_call(rt: HostRuntime) -> Result<(), Fail> {
+    for calls in 1..=CALLS {
+        for pick in 0..2 {
+            assert_eq!(rt; run_stopped(&rt, calls, pick)?, calls < CALLS);
+        }
+    }
     Ok(())
 }
 

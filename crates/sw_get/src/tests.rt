@@ -1,7 +1,7 @@
 //! Gets driven by hand to each of their ends.
 
 use crate::tests::Answer::{Archive, Damaged, Durable, Empty, Gone, Other, Silence, Tombstone};
-use crate::{GetEnd, GetOp};
+use crate::{GetEnd, GetOp, KeptEvent};
 use std::alloc::Global;
 use std::test::Fail;
 use sw_archive::{ArchiveBytes, make_archive};
@@ -300,18 +300,42 @@ fn goes_round_again(rt: HostRuntime) -> Result<(), Fail> {
     Ok(())
 }
 
-#[test]
-fn is_overtaken_in_eight_rounds(rt: HostRuntime) -> Result<(), Fail> {
-    let alloc = rt.alloc();
+// Each round shows this stamp, at device 0 alone.
+fn eight_rounds(alloc: Global, stamps: [u64; 8]) -> Result<GetOp, Fail> {
     let mut op = begun(alloc)?;
-    for units in 1..9u64 {
-        for one in [Durable(units, 0), Empty, Empty, Empty] {
+    for units in stamps {
+        for one in [Empty, Durable(units, 0), Empty, Empty] {
             let sent = sent(&mut op)?;
             respond(alloc, &mut op, sent.ticket, one)?;
         }
     }
+    Ok(op)
+}
+
+// How many events are that the target rose, and whether the first says from which stamp.
+fn rises(op: &GetOp) -> (usize, bool) {
+    let Some(GetEnd::Overtaken { events }) = op.end() else {
+        return (0, false);
+    };
+    let events = events.as_slice();
+    let rose = events
+        .iter()
+        .filter(|event| matches!(event, KeptEvent::Rose { .. }))
+        .count();
+    let from = matches!(events.first(), Some(KeptEvent::Rose { from: Some(_), .. }));
+    (rose, from)
+}
+
+#[test]
+fn is_overtaken_in_eight_rounds(rt: HostRuntime) -> Result<(), Fail> {
+    let alloc = rt.alloc();
+    let mut op = eight_rounds(alloc, [1, 2, 3, 4, 5, 6, 7, 8])?;
     assert!(rt; waits(&mut op)?);
     assert!(rt; ends_so(&op, Ends::Overtaken(8)));
+    assert_eq!(rt; rises(&op), (8, false));
+    let mut op = eight_rounds(alloc, [1, 2, 3, 4, 5, 6, 7, 7])?;
+    assert!(rt; waits(&mut op)?);
+    assert!(rt; ends_so(&op, Ends::TooFew(7, 1)));
     Ok(())
 }
 

@@ -133,6 +133,54 @@ fn ends_within_a_request(rt: HostRuntime) -> Result<(), Fail> {
     Ok(())
 }
 
+// Each read and each write fails once: the connection ends there, and what is written is a front of all.
+#[test]
+fn each_call_of_a_connection_fails(rt: HostRuntime) -> Result<(), Fail> {
+    let alloc = rt.alloc();
+    let to = "/v1/a/c/o HTTP/1.1\r\nHost: h\r\n";
+    let put = format!(in alloc; "PUT {to}Content-Length: 3\r\nExpect: 100-continue\r\n\r\nabc")?;
+    let text = format!(in alloc; "{put}{put}GET {to}\r\nGET {to}\r\n")?;
+    let (end, whole) = serve(&rt, alloc, text.as_bytes(), 40, None)?;
+    assert_eq!(rt; end, ConnEnd::Closed);
+    let mut faults = 0u64;
+    for calls in 0..99 {
+        let (end, written) = serve(&rt, alloc, text.as_bytes(), 40, Some(calls))?;
+        match end {
+            ConnEnd::ReadFault | ConnEnd::WriteFault => faults += 1,
+            _ => assert_eq!(rt; (end, written.len()), (ConnEnd::Closed, whole.len())),
+        }
+        assert!(rt; whole.as_slice().starts_with(written.as_slice()));
+    }
+    // Of 228 bytes forty at a time, and then the end: seven reads. A leave and an answer are written for a put, and an answer for a get.
+    assert_eq!(rt; faults, 7 + 6);
+    Ok(())
+}
+
+// A put as curl sends it, cut after each byte.
+#[test]
+fn cut_after_each_byte(rt: HostRuntime) -> Result<(), Fail> {
+    let alloc = rt.alloc();
+    let head =
+        "PUT /v1/AUTH_test/photos/cat.jpg HTTP/1.1\r\nHost: 127.0.0.1:8080\r\nUser-Agent: curl/8.5.0\r\nAccept: */*\r\nX-Auth-Token: tk\r\nContent-Type: image/jpeg\r\nContent-Length: 3\r\nExpect: 100-continue\r\n\r\n";
+    let text = format!(in alloc; "{head}abc")?;
+    let bytes = text.as_bytes();
+    let leave = "HTTP/1.1 100 Continue\r\n\r\n";
+    for most in [1, 65_536] {
+        for length in 0..bytes.len() {
+            let (end, written) = serve(&rt, alloc, &bytes[..length], most, None)?;
+            let cut = if length == 0 {
+                ConnEnd::Closed
+            } else {
+                ConnEnd::Cut
+            };
+            assert_eq!(rt; end, cut, "behind {length}");
+            let want = if length < head.len() { "" } else { leave };
+            assert_eq!(rt; written.as_slice(), want.as_bytes(), "behind {length}");
+        }
+    }
+    Ok(())
+}
+
 // A thousand requests are answered on a connection, and the last answer says that it is closed.
 #[test]
 fn a_thousand_requests(rt: HostRuntime) -> Result<(), Fail> {

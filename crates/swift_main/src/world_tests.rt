@@ -58,6 +58,25 @@ fn tells_each_message(rt: HostRuntime) -> Result<(), Fail> {
             "e 1 created 1000000000.00000 3\ne 2 found 1000000000.00000 616263 0,1\n\
              r 25 1 0 committed\ne 3 found 1000000000.00000 616263 0,1\n",
         ),
+        // What a get fetches was purged by a younger put, and is newer then.
+        (
+            "put a/c/o 616263\nstart get a/c/o\nmsg 13\nmsg 14\nmsg 15\nmsg 16\nmsg 17\nmsg 18\nmsg 19\nmsg 20\n\
+             put a/c/o 646566\nmsg 21\nmsg 22\nmsg 35\nall\n",
+            "e 1 created 1000000000.00000 3\no 2\nm 13 2 3 ask\nr 14 2 3 held\nm 15 2 0 ask\nm 16 2 1 ask\nm 17 2 2 ask\n\
+             r 18 2 0 held\nr 19 2 1 held\nr 20 2 2 held\nm 21 2 0 fetch 0\nm 22 2 1 fetch 1\n\
+             e 3 created 1000000000.00001 3\nr 35 2 0 gone\nr 36 2 1 gone\nm 37 2 2 fetch 2\n\
+             e 2 found 1000000000.00001 646566 0,1\n",
+        ),
+        // A fetch misses in a round whose target rose, and another round begins.
+        (
+            "put a/c/o 616263\nstart put a/c/o 646566\nstart get a/c/o\nmsg 16\nmsg 17\nmsg 18\nmsg 13\nmsg 14\nmsg 15\n\
+             msg 22\nmsg 23\nmsg 24\nmsg 27\nmsg 19\nmsg 20\nmsg 21\nmsg 29\nmsg 30\nmsg 31\nmsg 33\ngiveup 3\nall\n",
+            "e 1 created 1000000000.00000 3\no 2\nm 13 2 0 put 0\nm 14 2 1 put 1\nm 15 2 2 put 2\no 3\nm 16 3 3 ask\n\
+             r 17 3 3 held\nm 18 3 0 ask\nm 19 3 1 ask\nm 20 3 2 ask\nr 21 3 0 held\nr 22 2 0 synced\nr 23 2 1 synced\n\
+             r 24 2 2 synced\nm 25 2 0 commit 0\nm 26 2 1 commit 1\nm 27 2 2 commit 2\nr 28 2 2 committed\n\
+             r 29 3 1 held\nr 30 3 2 held\nm 31 3 1 fetch 1\nm 32 3 2 fetch 2\nr 33 3 1 fragment\nm 34 3 3 ask\n\
+             e 2 created 1000000000.00001 3\ne 3 found 1000000000.00001 646566 0,1\n",
+        ),
     ];
     for (script, text) in cases {
         let (status, written) = run(&rt, rt.alloc(), script)?;
