@@ -7,7 +7,7 @@ use Rattle.clap.specs.declared.builder.command.Command.{Command}
 use Rattle.clap.specs.declared.parser.matches.ArgMatches.{ArgMatches}
 use Rattle.clap.proofs.OnLiterals.{clap_on_literals}
 use Rattle.clap.proofs.WalkLemmas.{first_value-rows}
-use Rattle.sw_command.specs.Words.{are_matches, most_workers, greatest_port, number_in, positional, serve_app, serve_in, serve_of, without_help}
+use Rattle.sw_command.specs.Words.{are_matches, greatest_port, load_app, load_in, load_of, most_steps, most_workers, number_in, positional, serve_app, serve_in, serve_of, without_help}
 
 -- an argument that was made required
 abbrev when_required : Rule → Rule
@@ -28,9 +28,20 @@ pub made_serve : (flagged one two : Command) (port workers : Arg) → app_of fla
 made_serve flagged one two port workers flag adds adds_again is_port is_workers =
     adds_again.shape is_workers.is_local ∙ ap₂ with_rule (adds.shape is_port.is_local ∙ ap₂ with_rule flag is_port.rule_is) is_workers.rule_is
 
+pub made_load : (flagged one : Command) (number : Arg) → app_of flagged ≡ without_help (codes "load") → AddsArg flagged number one → IsPositional (codes "N") number → app_of one ≡ load_app
+made_load flagged one number flag adds is_number = adds.shape is_number.is_local ∙ ap₂ with_rule flag is_number.rule_is
+
 pub is_free : is_simple_and_free serve_app ≡ true
 unfolding clap_on_literals
 is_free = refl
+
+pub load-is_free : is_simple_and_free load_app ≡ true
+unfolding clap_on_literals
+load-is_free = refl
+
+load-is_plain : is_simple load_app ≡ true
+unfolding clap_on_literals
+load-is_plain = refl
 
 is_plain : is_simple serve_app ≡ true
 unfolding clap_on_literals
@@ -49,3 +60,14 @@ asked app words matches port workers is some has port_is workers_is =
     let first : port ≡ first_of (codes "PORT") (matches_of serve_app words) = port_is ∙ first_value-rows (found_of matches) (codes "PORT") ∙ ap (first_of (codes "PORT")) rows in
     let second : workers ≡ first_of (codes "WORKERS") (matches_of serve_app words) = workers_is ∙ first_value-rows (found_of matches) (codes "WORKERS") ∙ ap (first_of (codes "WORKERS")) rows in
     rw yes (ap₂ (λ (p w : Option Text). serve_of (number_in greatest_port p) (number_in most_workers w)) first second)
+
+pub none-loaded : (app : App) (words : List Text) → app ≡ load_app → false ≡ are_matches app words → None ≡ load_in words
+none-loaded app words is none = let no : are_matches load_app words ≡ false = ap (λ (a : App). are_matches a words) (sym is) ∙ sym none in rw no refl
+
+pub loaded : (app : App) (words : List Text) (matches : ArgMatches) (number : Option Text) → app ≡ load_app → true ≡ are_matches app words → HasMatchesOf app words matches → number ≡ first_value (found_of matches) (codes "N")
+    → load_of (number_in most_steps number) ≡ load_in words
+loaded app words matches number is some has number_is =
+    let yes : are_matches load_app words ≡ true = ap (λ (a : App). are_matches a words) (sym is) ∙ sym some in
+    let rows : rows_of (found_of matches) ≡ matches_of load_app words = (subst (λ (a : App). HasMatchesOf a words matches) is has load-is_plain).0 in
+    let first : number ≡ first_of (codes "N") (matches_of load_app words) = number_is ∙ first_value-rows (found_of matches) (codes "N") ∙ ap (first_of (codes "N")) rows in
+    rw yes (ap (λ (n : Option Text). load_of (number_in most_steps n)) first)

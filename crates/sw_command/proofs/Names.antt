@@ -12,12 +12,13 @@ differs text other apart = by (is_text text other) refl
     by true is = absurd (apart ((bytes_decides text other).0 is))
     by false is = is
 
-pub none_named : (words : List (String Global)) (word : String Global) → 2 ≤ length words → word ≡ slice_index_or words 1 word → ¬ (string_bytes word ≡ codes "play") → ¬ (string_bytes word ≡ codes "serve")
+pub none_named : (words : List (String Global)) (word : String Global) → 2 ≤ length words → word ≡ slice_index_or words 1 word → ¬ (string_bytes word ≡ codes "play") → ¬ (string_bytes word ≡ codes "serve") → ¬ (string_bytes word ≡ codes "load")
     → None ≡ command_in (map (λ w. string_bytes w) words)
-none_named [] word two at no_play no_serve = absurd (omega (arith, two))
-none_named (program ∷ []) word two at no_play no_serve = absurd (omega (arith, two))
-none_named (program ∷ name ∷ rest) word two at no_play no_serve =
+none_named [] word two at no_play no_serve no_load = absurd (omega (arith, two))
+none_named (program ∷ []) word two at no_play no_serve no_load = absurd (omega (arith, two))
+none_named (program ∷ name ∷ rest) word two at no_play no_serve no_load =
     let same : word ≡ name = at in
     let play : is_text (string_bytes name) (codes "play") ≡ false = differs (string_bytes name) (codes "play") (λ is. no_play (ap (λ w. string_bytes w) same ∙ is)) in
     let serve : is_text (string_bytes name) (codes "serve") ≡ false = differs (string_bytes name) (codes "serve") (λ is. no_serve (ap (λ w. string_bytes w) same ∙ is)) in
-    rw (play, serve) refl
+    let load : is_text (string_bytes name) (codes "load") ≡ false = differs (string_bytes name) (codes "load") (λ is. no_load (ap (λ w. string_bytes w) same ∙ is)) in
+    rw (play, serve, load) refl

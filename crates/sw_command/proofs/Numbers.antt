@@ -6,7 +6,7 @@ use Rattle.std.specs.Result.{OkIff, result_ok}
 use Rattle.std.specs.Str.Parse.{digits_value}
 use Rattle.std.proofs.lemmas.Bool.Decides.{nat_tests}
 use Rattle.std.proofs.lemmas.Fmt.{decimal_is_IsNumeral}
-use Rattle.sw_command.specs.Words.{IsInRange, greatest_port, is_text, most_workers, number_of, serve_of}
+use Rattle.sw_command.specs.Words.{IsInRange, greatest_port, is_text, load_of, most_steps, most_workers, number_of, serve_of}
 
 decimal_value : (text : List ℕ) (number : ℕ) → number < 2 ^ 64 → text ≡ decimal number → digits_value 10 text ≡ number
 decimal_value text number small printed = ap (digits_value 10) printed ∙ (decimal_is_IsNumeral number small).1
@@ -29,3 +29,8 @@ pub in_range : (port workers : Option ℕ) → IfSome port (λ number. (1 ≤ nu
 in_range None workers one other = tt
 in_range (Some port) None one other = tt
 in_range (Some port) (Some workers) one other = (one.0, one.1, other.0, other.1)
+
+-- a workload of a number of steps that is in its range
+pub load-in_range : (steps : Option ℕ) → IfSome steps (λ number. (1 ≤ number) × (number ≤ most_steps)) → IfSome (load_of steps) IsInRange
+load-in_range None within = tt
+load-in_range (Some steps) within = within

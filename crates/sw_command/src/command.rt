@@ -7,4 +7,6 @@ pub enum Command {
     Play,
     /// `serve PORT WORKERS`: the input is a ring, over whose devices' disks connections are served that come to the port.
     Serve { port: u16, workers: u16 },
+    /// `load N`: the input is a ring, over whose devices' nodes in memory a workload of so many steps runs.
+    Load { steps: u32 },
 }

@@ -35,14 +35,20 @@ fn reads_commands(rt: HostRuntime) -> Result<(), Fail> {
     expect(&rt, alloc, &["serve", "8080", "1"], serve(8080, 1))?;
     expect(&rt, alloc, &["serve", "65535", "16"], serve(65_535, 16))?;
     expect(&rt, alloc, &["serve", "1", "--", "1"], serve(1, 1))?;
-    let others: [&[&str]; 17] = [
+    let load = |steps| Some(Command::Load { steps });
+    expect(&rt, alloc, &["load", "1"], load(1))?;
+    expect(&rt, alloc, &["load", "100000"], load(100_000))?;
+    let others: [&[&str]; 20] = [
         &[],
         &[""],
         &["Play"],
         &["play", "x"],
         &["play", "--help"],
         &["play", "-h"],
-        &["load", "1"],
+        &["load"],
+        &["load", "0"],
+        &["load", "100001"],
+        &["load", "1", "1"],
         &["serve"],
         &["serve", "8080"],
         &["serve", "8080", "1", "1"],

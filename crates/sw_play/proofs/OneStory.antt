@@ -44,7 +44,7 @@ module _ (one two : Done) (same : one ≡ two) (story other : List Done) (end ho
 
 module _ (law : EventLaw) (cluster : ClusterModel) where
   -- a line is done in one way
-  done_once : (event : Event) (before : ScriptedWorld) → IsReached cluster before → (one other : Done) → one.event ≡ event → other.event ≡ event → DoesEvent before one → DoesEvent before other → (one ≡ other) × IsReached cluster one.after
+  pub done_once : (event : Event) (before : ScriptedWorld) → IsReached cluster before → (one other : Done) → one.event ≡ event → other.event ≡ event → DoesEvent before one → DoesEvent before other → (one ≡ other) × IsReached cluster one.after
   done_once event before reached one other first second x y =
       let same : AreOne cluster one.steps other.steps one.after other.after =
       unfolds_once law cluster before one.steps other.steps one.after other.after reached event

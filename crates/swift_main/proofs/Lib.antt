@@ -1,6 +1,7 @@
 mod Alike
 mod EmptyLines
 mod Inputs
+mod Loaded
 mod Outcomes
 mod Played
 mod Refused

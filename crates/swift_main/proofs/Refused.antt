@@ -2,7 +2,7 @@
 use Rattle.std.proofs.Common.{◌≡◌, ℕ, List, [], Option, Some, None, inl, inr, refl, arith}
 use Rattle.std.proofs.KnownBytes.{Consumes-nil}
 use Rattle.sw_command.specs.declared.command.Command.{Command}
-use Rattle.sw_command.specs.declared.command.Command.TheVariants.{Play, Serve}
+use Rattle.sw_command.specs.declared.command.Command.TheVariants.{Load, Play, Serve}
 use Rattle.sw_ring.specs.Cluster.{ClusterModel}
 use Rattle.sw_server.specs.declared.end.ServeEnd.{ServeEnd}
 use Rattle.swift_main.specs.Reading.{IsUnread}
@@ -18,3 +18,4 @@ pub refused : (serves : (port : ℕ) → ClusterModel → ServeEnd → (told : L
 refused serves untouched source sink None as_before = (refl, as_before, inr (refl, refl))
 refused serves untouched source sink (Some Play) as_before = (as_before, inl (refl, unread source))
 refused serves untouched source sink (Some (Serve port workers)) as_before = inl ((as_before, refl), unread source)
+refused serves untouched source sink (Some (Load steps)) as_before = (as_before, inl (refl, unread source))

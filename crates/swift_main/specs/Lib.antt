@@ -1,5 +1,6 @@
 pub mod Answer
 pub mod Input
+pub mod Loading
 pub mod Outcome
 pub mod Playing
 pub mod Reading

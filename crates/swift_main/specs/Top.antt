@@ -1,9 +1,10 @@
 -- What the program does, by the command that its words ask for.
 use Rattle.std.specs.Prelude.{◌≡◌, ℕ, List, Option, Some, None}
 use Rattle.sw_command.specs.declared.command.Command.{Command}
-use Rattle.sw_command.specs.declared.command.Command.TheVariants.{Play, Serve}
+use Rattle.sw_command.specs.declared.command.Command.TheVariants.{Load, Play, Serve}
 use Rattle.sw_ring.specs.Cluster.{ClusterModel}
 use Rattle.sw_server.specs.declared.end.ServeEnd.{ServeEnd}
+use Rattle.swift_main.specs.Loading.{Loads}
 use Rattle.swift_main.specs.Playing.{Plays}
 use Rattle.swift_main.specs.Seen.{SinkSeen, SourceSeen}
 use Rattle.swift_main.specs.Serving.{Serves}
@@ -17,3 +18,4 @@ module _ (serves : (port : ℕ) → ClusterModel → ServeEnd → (told : List �
   Does None status = (source' ≡ source) × untouched × Tells Usage sink sink' status
   Does (Some Play) status = untouched × Plays source source' sink sink' status
   Does (Some (Serve port workers)) status = Serves (serves port) untouched sink sink' source source' status
+  Does (Some (Load steps)) status = untouched × Loads steps sink sink' source source' status

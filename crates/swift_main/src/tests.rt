@@ -49,7 +49,7 @@ pub(crate) fn run(
 }
 
 // Runs the program by these words on this input, and compares its status and what it writes.
-fn expect_run(
+pub(crate) fn expect_run(
     rt: &(impl Threads + Wait + Sync + Abort),
     alloc: Global,
     words: &[&str],
@@ -356,13 +356,13 @@ fn ends_at_the_first_fault(rt: HostRuntime) -> Result<(), Fail> {
 }
 
 #[test]
-fn knows_two_commands(rt: HostRuntime) -> Result<(), Fail> {
+fn knows_three_commands(rt: HostRuntime) -> Result<(), Fail> {
     let cases: [&[&str]; 5] = [
         &[],
         &["play", "more"],
         &["serve", "8080"],
         &["serve", "8080", "17"],
-        &["load", "1"],
+        &["load", "0"],
     ];
     for words in cases {
         let input = b"x".to_vec(rt.alloc())?;

@@ -9,6 +9,7 @@ ghost use Rattle.swift_main.specs.Outcome.{status_code};
 ghost use Rattle.swift_main.specs.Top.{Does};
 ghost use Rattle.swift_main.specs.declared.status.Status.{Status as AStatus};
 
+use crate::loading::load_from;
 use crate::playing::play_from;
 use crate::serving::serve_from;
 use crate::status::Status;
@@ -34,6 +35,9 @@ use sw_types::NoMemory;
 /// came, over the nodes as they then stood. Over disks that tell what they hold one closed account of all that happened at the devices shows it:
 /// each object that was answered is one put's, decoded from k archives of one durable stamp, and each connection is shown what it put itself, or
 /// something newer, or was overtaken, while few disks are lost. All disks go back, unless memory was wanted before `ready`.
+///
+/// `load` reads the ring, which is the whole input, and runs the workload of 1 to 100,000 steps in an empty world of its cluster, up to its last
+/// event: a story of its events again, and the summary that is written counts how the operations in it ended.
 ///
 /// Of words that are no command the usage is written, or a front of it, and nothing is read; 1 is for these alone. Whatever source, sink, shelf and doors tell, all of
 /// this holds of what they do.
@@ -75,6 +79,7 @@ pub fn swift_main<
             rt, alloc, port, workers, input, output, shelf, doors, clock, gate,
         )
         .code(),
+        Ok(Some(Command::Load { steps })) => load_from(alloc, steps, input, output).code(),
         Ok(None) => tell(alloc, output, Status::Usage).code(),
         Err(NoMemory) => Status::NoMemory.code(),
     }

@@ -1,0 +1,4 @@
+pub mod Alike
+pub mod Devices
+pub mod Progress
+pub mod Stamps
