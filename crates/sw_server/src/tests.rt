@@ -259,7 +259,7 @@ fn each_disk_is_its_devices_own(rt: HostRuntime) -> Result<(), Fail> {
     let served = serve_requests(&rt, rt.alloc(), &[PUT], 1, failing, &clock, &OpenGate)?;
     assert_eq!(&rt; served.end, ServeEnd::Closed { count: 1 });
     let [first, _, third, _] = REPAIRED;
-    let handed = Some("1000000000.00000#1.data");
+    let handed = Some("1000000000.00000#1#d.data");
     expect_files(&rt, &served, [first, None, third, handed]);
     Ok(())
 }
