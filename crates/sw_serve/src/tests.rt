@@ -146,7 +146,7 @@ fn each_call_of_a_connection_fails(rt: HostRuntime) -> Result<(), Fail> {
     for calls in 0..99 {
         let (end, written) = serve(&rt, alloc, text.as_bytes(), 40, Some(calls))?;
         match end {
-            ConnEnd::ReadFault | ConnEnd::WriteFault => faults += 1,
+            ConnEnd::ReadFault | ConnEnd::WriteFault => faults = faults.saturating_add(1),
             _ => assert_eq!(rt; (end, written.len()), (ConnEnd::Closed, whole.len())),
         }
         assert!(rt; whole.as_slice().starts_with(written.as_slice()));
