@@ -1,13 +1,12 @@
 //! The job of a step.
 
 ghost use Rattle.std.specs.Prelude.{◌≡◌, IfOk};
-ghost use Rattle.sw_script.specs.Word.{script_head};
 ghost use Rattle.sw_lab.specs.Workload.{body_of, job_of, name_of, put_object};
 
 use crate::draw::Draw;
 use std::alloc::Global;
-use sw_script::Job;
-use sw_types::{Bytes, Head, Name, NoMemory, Object};
+use sw_script::{Job, script_head};
+use sw_types::{Bytes, Name, NameFault, NoMemory, Object};
 
 /// What a step puts, gets or deletes.
 pub(crate) fn job_of(alloc: Global, draw: Draw) -> Result<Job, NoMemory>
@@ -24,19 +23,29 @@ pub(crate) fn job_of(alloc: Global, draw: Draw) -> Result<Job, NoMemory>
     }
 }
 
-/// The name of a step: one of fifty. It breaks no rule.
+/// The name of a step: one of fifty.
 pub(crate) fn name_of(alloc: Global, number: u32) -> Result<Name, NoMemory>
     ensures { IfOk result (λ name. name ≡ name_of number) }
 {
     let object = format!(in alloc; "obj{}", number % 50)?;
-    Name::make(alloc, b"load", b"box", object.as_bytes()).map_err(|_| NoMemory)
+    match Name::make(alloc, b"load", b"box", object.as_bytes()) {
+        Ok(name) => Ok(name),
+        Err(fault) => Err(only_memory(fault)),
+    }
 }
 
-// What a step puts. Its head breaks no rule.
+// A fault that is want of memory.
+fn only_memory(_fault: NameFault) -> NoMemory
+    requires { _fault ≡ NameFault.NoMemory }
+{
+    NoMemory
+}
+
+// What a step puts.
 fn put_object(alloc: Global, number: u32) -> Result<Object, NoMemory>
     ensures { IfOk result (λ object. object ≡ put_object number) }
 {
-    let head = Head::make(alloc, b"application/octet-stream", &[]).map_err(|_| NoMemory)?;
+    let head = script_head(alloc)?;
     let body = body_of(alloc, number)?;
     match Object::make(head, body) {
         Ok(object) => Ok(object),

@@ -15,6 +15,7 @@ pub use crate::event::{Event, Job};
 pub use crate::fault::LineFault;
 pub use crate::laws::limits_law;
 pub use crate::line::GREATEST_LINE;
+pub use crate::word::script_head;
 
 #[cfg(test)]
 mod tests;

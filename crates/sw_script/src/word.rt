@@ -10,7 +10,7 @@ ghost use Rattle.sw_script.specs.Word.{number_of, object_in, script_head, stamp_
 
 use crate::LineFault;
 use std::alloc::Global;
-use sw_types::{Head, HexFault, NoMemory, Object, Stamp, read_decimal, read_hex};
+use sw_types::{Head, HeadFault, HexFault, NoMemory, Object, Stamp, read_decimal, read_hex};
 
 /// The number that a word spells.
 pub(crate) fn read_number(word: &[u8]) -> Result<u64, LineFault>
@@ -81,9 +81,19 @@ fn are_digits(text: &[u8]) -> bool
     text.iter().all(|digit| digit.is_ascii_hexdigit())
 }
 
-// The head of each object that a script puts. It breaks no rule.
-fn script_head(alloc: Global) -> Result<Head, NoMemory>
+/// The head of each object that a script or a workload puts.
+pub fn script_head(alloc: Global) -> Result<Head, NoMemory>
     ensures { IfOk result (λ head. head ≡ script_head) }
 {
-    Head::make(alloc, b"application/octet-stream", &[]).map_err(|_| NoMemory)
+    match Head::make(alloc, b"application/octet-stream", &[]) {
+        Ok(head) => Ok(head),
+        Err(fault) => Err(only_memory(fault)),
+    }
+}
+
+// A fault that is want of memory.
+fn only_memory(_fault: HeadFault) -> NoMemory
+    requires { _fault ≡ HeadFault.NoMemory }
+{
+    NoMemory
 }
