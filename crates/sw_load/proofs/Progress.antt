@@ -76,8 +76,7 @@ only_memory one before NoSuchOperation old new may by = absurd (cc (may.0, by.0)
 only_memory one before StampsSpent old new may by = absurd (may.1 by.1)
 only_memory one before NoMemory old new may by = refl
 
--- the next event is the first of those that are left
-pub first_left : (found : Option Event) (one : Event) (old new : List Event) → MatchOption found ((old ≡ []) × (new ≡ [])) (λ first. old ≡ first ∷ new) → found ≡ Some one → old ≡ one ∷ new
+first_left : (found : Option Event) (one : Event) (old new : List Event) → MatchOption found ((old ≡ []) × (new ≡ [])) (λ first. old ≡ first ∷ new) → found ≡ Some one → old ≡ one ∷ new
 first_left None one old new next is = absurd (cc is)
 first_left (Some first) one old new next is = next ∙ ap (λ (this : Event). this ∷ new) (cc is)
 
@@ -145,6 +144,11 @@ module _ (cluster : ClusterModel) (number : ℕ) where
           names = All-tail (Names (ids_of cluster)) one rest progress.names;
           stamps = omega (arith, progress.stamps, raises one progress.after did.steps did.after (is_work _ one names) did.does.unfolds did.does.steps);
         }
+
+  -- the next event is the first of those that are left
+  pub progress-next : (found : Option Event) (one : Event) (old new : List Event) (world : WorldModel) (summary : Summary) → MatchOption found ((old ≡ []) × (new ≡ [])) (λ first. old ≡ first ∷ new)
+      → found ≡ Some one → Progress cluster number world old summary → Progress cluster number world (one ∷ new) summary
+  progress-next found one old new world summary next is progress = subst (λ (left : List Event). Progress cluster number world left summary) (first_left found one old new next is) progress
 
   pub progress-all : (world : WorldModel) (summary : Summary) → Progress cluster number world [] summary → HasRun cluster (workload_of (ids_of cluster) number) summary
   progress-all world summary progress = record {
