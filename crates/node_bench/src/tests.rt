@@ -200,7 +200,12 @@ fn run_failing(rt: &(impl Abort + AllocGlobal), call: u64) -> Result<u32> {
         let told = request.tell(alloc, &mut server)?;
         if told.as_str() == FAULT {
             faults = faults.saturating_add(1);
-            request.tell(alloc, &mut server)?;
+            // What a message had already taken away, it does not find when it comes again.
+            let again = request.tell(alloc, &mut server)?;
+            assert!(rt;
+                [text, "deleted no", "missing"].contains(&again.as_str()),
+                "call {call}: {again}"
+            );
         } else {
             assert_eq!(rt; told.as_str(), text, "call {call}");
         }

@@ -5,9 +5,9 @@ use crate::{GetEnd, GetOp, KeptEvent};
 use std::alloc::Global;
 use std::test::Fail;
 use sw_archive::{ArchiveBytes, make_archive};
-use sw_hashdir::HashDir;
+use sw_hashdir::{Floor, FloorKind, HashDir};
 use sw_message::{Miss, Operation, Reply, Sent, Target};
-use sw_ring::Cluster;
+use sw_ring::{Cluster, built_in};
 use sw_types::{Bytes, Head, Name, Object, Policy, Stamp};
 
 // The handoff 3 and the primaries 0 to 2.
@@ -19,14 +19,22 @@ fn a_c_o(alloc: Global) -> Result<Name, Fail> {
 }
 
 fn begun(alloc: Global) -> Result<GetOp, Fail> {
-    let cluster = Cluster::read(alloc, RING)?;
+    begun_on(alloc, RING)
+}
+
+fn begun_on(alloc: Global, ring: &[u8]) -> Result<GetOp, Fail> {
+    let cluster = Cluster::read(alloc, ring)?;
     Ok(GetOp::begin(alloc, &cluster, &a_c_o(alloc)?)?)
+}
+
+fn stamp(units: u64) -> Result<Stamp, Fail> {
+    Ok(Stamp::make(units).ok_or("stamp")?)
 }
 
 // The archive of an index at a stamp of a body.
 fn archive(alloc: Global, units: u64, index: u32, body: &[u8]) -> Result<Reply, Fail> {
     let policy = Policy::make(2, 1, 3, 2, 4096)?;
-    let stamp = Stamp::make(units).ok_or("stamp")?;
+    let stamp = stamp(units)?;
     let head = Head::make(alloc, b"text/plain", &[])?;
     let body = Bytes::from_slice(alloc, body)?;
     let object = Object::make(head, body).ok().ok_or("too long")?;
@@ -74,11 +82,13 @@ impl Answer {
         match self {
             Answer::Empty => {}
             Answer::Durable(units, index) => {
-                names.push(format!(in alloc; "0000000000.0000{units}#{index}#d.data")?)?;
+                let stamp = stamp(units)?;
+                names.push(format!(in alloc; "{stamp}#{index}#d.data")?)?;
             }
-            Answer::Tombstone(units) => names.push(format!(in alloc;
-                "0000000000.0000{units}.ts"
-            )?)?,
+            Answer::Tombstone(units) => {
+                let stamp = stamp(units)?;
+                names.push(format!(in alloc; "{stamp}.ts")?)?;
+            }
             Answer::Archive(units, index) => {
                 return Ok(Some(archive(alloc, units, index, b"abc")?));
             }
@@ -159,7 +169,6 @@ enum Ends {
     Buried(u64),
     Unanswered(&'static [(u16, Miss)]),
     TooFew(u64, u32),
-    Overtaken(usize),
 }
 
 fn came_from(sources: &[Target], from: &[(u32, u16)]) -> bool {
@@ -192,9 +201,6 @@ impl Ends {
             }
             (Ends::TooFew(units, count), Some(GetEnd::TooFew { stamp, have })) => {
                 stamp.units() == units && *have == count
-            }
-            (Ends::Overtaken(count), Some(GetEnd::Overtaken { events })) => {
-                events.as_slice().len() == count
             }
             _ => false,
         }
@@ -300,42 +306,71 @@ fn goes_round_again(rt: HostRuntime) -> Result<(), Fail> {
     Ok(())
 }
 
-// Each round shows this stamp, at device 0 alone.
-fn eight_rounds(alloc: Global, stamps: [u64; 8]) -> Result<GetOp, Fail> {
-    let mut op = begun(alloc)?;
-    for units in stamps {
-        for one in [Empty, Durable(units, 0), Empty, Empty] {
-            let sent = sent(&mut op)?;
-            respond(alloc, &mut op, sent.ticket, one)?;
-        }
+// The first stamp of a script's clock.
+const FIRST_CLOCK: u64 = 100_000_000_000_000;
+
+// Answers the next message, which is to this device.
+fn respond_from(alloc: Global, op: &mut GetOp, device: u16, one: Answer) -> Result<(), Fail> {
+    let sent = sent(op)?;
+    if sent.device != device {
+        return Err("another device".into());
     }
-    Ok(op)
+    respond(alloc, op, sent.ticket, one)
 }
 
-// How many events are that the target rose, and whether the first says from which stamp.
-fn rises(op: &GetOp) -> (usize, bool) {
-    let Some(GetEnd::Overtaken { events }) = op.end() else {
-        return (0, false);
-    };
-    let events = events.as_slice();
-    let rose = events
-        .iter()
-        .filter(|event| matches!(event, KeptEvent::Rose { .. }))
-        .count();
-    let from = matches!(events.first(), Some(KeptEvent::Rose { from: Some(_), .. }));
-    (rose, from)
+// A round in which device 0 alone lists an archive, at the stamp that is so far behind the first one.
+fn round(alloc: Global, op: &mut GetOp, behind: u64) -> Result<(), Fail> {
+    respond_from(alloc, op, 3, Empty)?;
+    respond_from(alloc, op, 0, Durable(FIRST_CLOCK.saturating_add(behind), 0))?;
+    respond_from(alloc, op, 1, Empty)?;
+    respond_from(alloc, op, 2, Empty)
+}
+
+// A get that has ended behind eight such rounds.
+fn ended_behind(alloc: Global, stamps: [u64; 8]) -> Result<GetOp, Fail> {
+    let mut op = begun_on(alloc, built_in())?;
+    for behind in stamps {
+        round(alloc, &mut op, behind)?;
+    }
+    if waits(&mut op)? {
+        Ok(op)
+    } else {
+        Err("a ninth round".into())
+    }
+}
+
+// In each of eight rounds the target rose by one, in the first from nothing.
+fn eight_rises(alloc: Global) -> Result<Vec<KeptEvent>, Fail> {
+    let mut events = Vec::new(alloc);
+    let mut from = None;
+    for behind in 1..=8 {
+        let to = Floor {
+            stamp: stamp(FIRST_CLOCK + behind)?,
+            kind: FloorKind::Durable,
+        };
+        events.push(KeptEvent::Rose { from, to })?;
+        from = Some(to);
+    }
+    Ok(events)
+}
+
+fn is_overtaken_by(op: &GetOp, want: &[KeptEvent]) -> bool {
+    matches!(op.end(), Some(GetEnd::Overtaken { events }) if events.as_slice() == want)
 }
 
 #[test]
 fn is_overtaken_in_eight_rounds(rt: HostRuntime) -> Result<(), Fail> {
-    let alloc = rt.alloc();
-    let mut op = eight_rounds(alloc, [1, 2, 3, 4, 5, 6, 7, 8])?;
-    assert!(rt; waits(&mut op)?);
-    assert!(rt; ends_so(&op, Ends::Overtaken(8)));
-    assert_eq!(rt; rises(&op), (8, false));
-    let mut op = eight_rounds(alloc, [1, 2, 3, 4, 5, 6, 7, 7])?;
-    assert!(rt; waits(&mut op)?);
-    assert!(rt; ends_so(&op, Ends::TooFew(7, 1)));
+    let want = eight_rises(rt.alloc())?;
+    let op = ended_behind(rt.alloc(), [1, 2, 3, 4, 5, 6, 7, 8])?;
+    assert!(rt; is_overtaken_by(&op, &want));
+    Ok(())
+}
+
+// The eighth round shows what the seventh showed.
+#[test]
+fn is_settled_in_the_eighth_round(rt: HostRuntime) -> Result<(), Fail> {
+    let op = ended_behind(rt.alloc(), [1, 2, 3, 4, 5, 6, 7, 7])?;
+    assert!(rt; ends_so(&op, Ends::TooFew(FIRST_CLOCK + 7, 1)));
     Ok(())
 }
 

@@ -9,7 +9,7 @@ use sw_get::GetEnd;
 use sw_put::PutEnd;
 use sw_ring::{Cluster, built_in};
 use sw_script::{Event, Job};
-use sw_types::Stamp;
+use sw_types::{Items, Stamp};
 
 // What an event does, for comparison.
 #[derive(Clone, Copy, Debug, PartialEq, Eq)]
@@ -117,23 +117,101 @@ fn stops_devices_in_turn(rt: HostRuntime) -> Result<(), Fail> {
     Ok(())
 }
 
-// What is printed of a put that was created, a get that found no object, and a delete that found none.
+// Of each kind of end that needs no object and no floor there is one.
 #[test]
-fn prints_a_line_for_each_count(rt: HostRuntime) -> Result<(), Fail> {
+fn counts_each_end(rt: HostRuntime) -> Result<(), Fail> {
     let alloc = rt.alloc();
     let stamp = Stamp::make(7).ok_or("stamp")?;
+    let have = 1;
     let mut summary = Summary::new();
-    summary.put(&PutEnd::Created { stamp, commits: 3 });
-    summary.get(&GetEnd::Absent);
-    let existed = false;
-    summary.delete(&DeleteEnd::Deleted {
-        stamp,
-        marks: 4,
-        existed,
-    });
+    for put in [
+        PutEnd::Created { stamp, commits: 3 },
+        PutEnd::TooFewSynced {
+            have,
+            misses: Items::from(Vec::new(alloc)),
+        },
+        PutEnd::TooFewCommits {
+            have,
+            misses: Items::from(Vec::new(alloc)),
+        },
+    ] {
+        summary.put(&put);
+    }
+    for get in [
+        GetEnd::Absent,
+        GetEnd::Buried { stamp },
+        GetEnd::Unanswered {
+            misses: Items::from(Vec::new(alloc)),
+        },
+        GetEnd::TooFew { stamp, have },
+        GetEnd::Overtaken {
+            events: Items::from(Vec::new(alloc)),
+        },
+    ] {
+        summary.get(&get);
+    }
+    for delete in [
+        DeleteEnd::Deleted {
+            stamp,
+            marks: 4,
+            existed: true,
+        },
+        DeleteEnd::Deleted {
+            stamp,
+            marks: 4,
+            existed: false,
+        },
+        DeleteEnd::TooFewMarks {
+            have,
+            misses: Items::from(Vec::new(alloc)),
+        },
+    ] {
+        summary.delete(&delete);
+    }
     summary.job();
+    let want = Summary {
+        created: 1,
+        superseded: 0,
+        too_few_synced: 1,
+        too_few_commits: 1,
+        found: 0,
+        absent: 1,
+        buried: 1,
+        unanswered: 1,
+        too_few: 1,
+        overtaken: 1,
+        deleted: 1,
+        missing: 1,
+        too_few_marks: 1,
+        jobs: 1,
+        bytes: 0,
+    };
+    assert_eq!(&rt; summary, want);
+    Ok(())
+}
+
+// A line for each count, each of another number.
+#[test]
+fn prints_a_line_for_each_count(rt: HostRuntime) -> Result<(), Fail> {
+    let summary = Summary {
+        created: 1,
+        superseded: 2,
+        too_few_synced: 3,
+        too_few_commits: 4,
+        found: 5,
+        absent: 6,
+        buried: 7,
+        unanswered: 8,
+        too_few: 9,
+        overtaken: 10,
+        deleted: 11,
+        missing: 12,
+        too_few_marks: 13,
+        jobs: 14,
+        bytes: 15,
+    };
     let text =
-        "created 1\nsuperseded 0\ntoo-few-synced 0\ntoo-few-commits 0\nfound 0\nabsent 1\nburied 0\nunanswered 0\ntoo-few 0\novertaken 0\ndeleted 0\nmissing 1\ntoo-few-marks 0\njobs 1\nbytes 0\n";
-    assert_eq!(&rt; summary.print(alloc)?.as_slice(), text.as_bytes());
+        "created 1\nsuperseded 2\ntoo-few-synced 3\ntoo-few-commits 4\nfound 5\nabsent 6\nburied 7\nunanswered 8\ntoo-few 9\novertaken 10\ndeleted 11\nmissing 12\ntoo-few-marks 13\njobs 14\nbytes 15\n";
+    assert_eq!(&rt; summary.print(rt.alloc())?.as_slice(), text.as_bytes());
     Ok(())
 }

@@ -13,8 +13,8 @@ use sw_ring::Cluster;
 use sw_script::Event;
 use sw_types::NoMemory;
 
-/// The work of a number: events that are still to be done. Each step puts, gets or deletes one of fifty names; now and then a device
-/// stops, and comes back behind ten steps, before which all devices repair.
+/// The work of a number: events that are still to be done. Each step puts, gets or deletes one of fifty names; before each twentieth a
+/// device stops, and ten steps on it comes back, and all devices repair.
 #[derive(Drop)]
 pub struct Workload {
     alloc: Global,

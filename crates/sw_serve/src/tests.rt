@@ -9,6 +9,19 @@ use std::test::Fail;
 use sw_io::MemConn;
 use sw_types::Bytes;
 
+// How curl asks for an object, behind the method.
+const CAT_BY_CURL: &str =
+    "/v1/AUTH_test/photos/cat.jpg HTTP/1.1\r\nHost: 127.0.0.1:8080\r\nUser-Agent: curl/8.5.0\r\nAccept: */*\r\nX-Auth-Token: tk\r\n";
+
+// What is answered: that a body may come, and, up to the last digit of the stamp, that `abc` was put and that it was found.
+const LEAVE: &str = "HTTP/1.1 100 Continue\r\n\r\n";
+
+const CREATED: &str =
+    "HTTP/1.1 201 Created\r\nContent-Length: 0\r\nETag: 900150983cd24fb0d6963f7d28e17f72\r\nX-Timestamp: 1000000000.0000";
+
+const FOUND: &str =
+    "HTTP/1.1 200 OK\r\nContent-Length: 3\r\nContent-Type: image/jpeg\r\nETag: 900150983cd24fb0d6963f7d28e17f72\r\nX-Timestamp: 1000000000.0000";
+
 // How a connection ends on which these bytes come, so many at a time, over new nodes, and what is written. Where calls are told, those
 // behind so many fail.
 fn serve(
@@ -48,18 +61,13 @@ fn expect_served(
 #[test]
 fn requests_one_behind_the_other(rt: HostRuntime) -> Result<(), Fail> {
     let alloc = rt.alloc();
-    let put =
-        "PUT /v1/AUTH_test/photos/cat.jpg HTTP/1.1\r\nHost: 127.0.0.1:8080\r\nUser-Agent: curl/8.5.0\r\nAccept: */*\r\nX-Auth-Token: tk\r\nContent-Type: image/jpeg\r\n";
+    let put = format!(in alloc; "PUT {CAT_BY_CURL}Content-Type: image/jpeg\r\n")?;
     let to = "/v1/AUTH_test/photos/cat.jpg HTTP/1.1\r\nHost: h\r\n";
     let text = format!(in alloc;
         "{put}Content-Length: 3\r\nExpect: 100-continue\r\n\r\nabcGET {to}\r\n{put}Transfer-Encoding: chunked\r\n\r\n3\r\nabc\r\n0\r\n\r\nHEAD {to}\r\nDELETE {to}\r\nGET {to}Connection: close\r\n\r\nGET {to}"
     )?;
-    let created =
-        "HTTP/1.1 201 Created\r\nContent-Length: 0\r\nETag: 900150983cd24fb0d6963f7d28e17f72\r\nX-Timestamp: 1000000000.0000";
-    let found =
-        "HTTP/1.1 200 OK\r\nContent-Length: 3\r\nContent-Type: image/jpeg\r\nETag: 900150983cd24fb0d6963f7d28e17f72\r\nX-Timestamp: 1000000000.0000";
     let want = format!(in alloc;
-        "HTTP/1.1 100 Continue\r\n\r\n{created}0\r\nX-Commits: 3\r\n\r\n{found}0\r\n\r\nabc{created}1\r\nX-Commits: 3\r\n\r\n{found}1\r\n\r\nHTTP/1.1 204 No Content\r\n\r\nHTTP/1.1 404 Not Found\r\nContent-Length: 24\r\nContent-Type: text/plain\r\nConnection: close\r\n\r\nBuried 1000000000.00002\n"
+        "{LEAVE}{CREATED}0\r\nX-Commits: 3\r\n\r\n{FOUND}0\r\n\r\nabc{CREATED}1\r\nX-Commits: 3\r\n\r\n{FOUND}1\r\n\r\nHTTP/1.1 204 No Content\r\n\r\nHTTP/1.1 404 Not Found\r\nContent-Length: 24\r\nContent-Type: text/plain\r\nConnection: close\r\n\r\nBuried 1000000000.00002\n"
     )?;
     expect_served(&rt, alloc, &text, ConnEnd::Closed, &want)
 }
@@ -109,14 +117,13 @@ fn ends_within_a_request(rt: HostRuntime) -> Result<(), Fail> {
     for (text, end, want) in cases {
         expect_served(&rt, alloc, text, end, want)?;
     }
-    let leave = "HTTP/1.1 100 Continue\r\n\r\n";
     let cut = format!(in alloc; "{head}ab")?;
-    expect_served(&rt, alloc, &cut, ConnEnd::Cut, leave)?;
+    expect_served(&rt, alloc, &cut, ConnEnd::Cut, LEAVE)?;
     // The calls: a read, a write of the leave, a read of the body, a write of the answer.
     let cases = [
         (0, ConnEnd::ReadFault, ""),
         (1, ConnEnd::WriteFault, ""),
-        (2, ConnEnd::ReadFault, leave),
+        (2, ConnEnd::ReadFault, LEAVE),
     ];
     for (calls, end, want) in cases {
         let (ended, written) = serve(&rt, alloc, head.as_bytes(), 65_536, Some(calls))?;
@@ -156,29 +163,57 @@ fn each_call_of_a_connection_fails(rt: HostRuntime) -> Result<(), Fail> {
     Ok(())
 }
 
-// A put as curl sends it, cut after each byte.
+// How a connection ends whose last byte is that of these, and what is written.
+fn expect_cut(
+    rt: &(impl Wait + Abort),
+    alloc: Global,
+    bytes: &[u8],
+    end: ConnEnd,
+    want: &[u8],
+) -> Result<(), Fail> {
+    for most in [1, 65_536] {
+        let (ended, written) = serve(rt, alloc, bytes, most, None)?;
+        assert_eq!(rt; ended, end, "behind {}", bytes.len());
+        assert_eq!(rt; written.as_slice(), want, "behind {}", bytes.len());
+    }
+    Ok(())
+}
+
+// A put as curl sends it, a get and a put in chunks, cut after each byte.
 #[test]
 fn cut_after_each_byte(rt: HostRuntime) -> Result<(), Fail> {
     let alloc = rt.alloc();
-    let head =
-        "PUT /v1/AUTH_test/photos/cat.jpg HTTP/1.1\r\nHost: 127.0.0.1:8080\r\nUser-Agent: curl/8.5.0\r\nAccept: */*\r\nX-Auth-Token: tk\r\nContent-Type: image/jpeg\r\nContent-Length: 3\r\nExpect: 100-continue\r\n\r\n";
-    let text = format!(in alloc; "{head}abc")?;
-    let bytes = text.as_bytes();
-    let leave = "HTTP/1.1 100 Continue\r\n\r\n";
-    for most in [1, 65_536] {
-        for length in 0..bytes.len() {
-            let (end, written) = serve(&rt, alloc, &bytes[..length], most, None)?;
-            let cut = if length == 0 {
+    let get = format!(in alloc; "GET {CAT_BY_CURL}\r\n")?;
+    let put = format!(in alloc; "PUT {CAT_BY_CURL}Content-Type: image/jpeg\r\n")?;
+    let head = format!(in alloc; "{put}Content-Length: 3\r\nExpect: 100-continue\r\n\r\n")?;
+    let chunks = format!(in alloc; "{put}Transfer-Encoding: chunked\r\n\r\n3\r\nabc\r\n0\r\n\r\n")?;
+    let created = format!(in alloc; "{CREATED}0\r\nX-Commits: 3\r\n\r\n")?;
+    let found = format!(in alloc; "{FOUND}0\r\n\r\nabc")?;
+    let again = format!(in alloc; "{CREATED}1\r\nX-Commits: 3\r\n\r\n")?;
+    // What comes, what is written once it is there, and whether a request ends with it.
+    let pieces = [
+        (head.as_str(), LEAVE, false),
+        ("abc", created.as_str(), true),
+        (get.as_str(), found.as_str(), true),
+        (chunks.as_str(), again.as_str(), true),
+    ];
+    let (mut bytes, mut want) = (Vec::new(alloc), Vec::new(alloc));
+    let mut is_whole = true;
+    for (piece, answer, ends) in pieces {
+        for byte in piece.as_bytes() {
+            let end = if is_whole {
                 ConnEnd::Closed
             } else {
                 ConnEnd::Cut
             };
-            assert_eq!(rt; end, cut, "behind {length}");
-            let want = if length < head.len() { "" } else { leave };
-            assert_eq!(rt; written.as_slice(), want.as_bytes(), "behind {length}");
+            expect_cut(&rt, alloc, &bytes, end, &want)?;
+            bytes.push(*byte)?;
+            is_whole = false;
         }
+        want.extend_from_slice(answer.as_bytes())?;
+        is_whole = ends;
     }
-    Ok(())
+    expect_cut(&rt, alloc, &bytes, ConnEnd::Closed, &want)
 }
 
 // A thousand requests are answered on a connection, and the last answer says that it is closed.

@@ -6,7 +6,7 @@ use std::process::Abort;
 use std::sync::Wait;
 use std::test::Fail;
 use std::thread::Threads;
-use sw_io::{MemClock, MemDoors, MemSink, MemSource, OpenGate};
+use sw_io::{MemClock, MemDoors, MemSink, MemSource, OpenGate, Sink};
 use sw_memshelf::MemShelf;
 use sw_play::{GREATEST_SCRIPT, PlayEnd, play};
 use sw_ring::{Cluster, built_in};
@@ -31,7 +31,7 @@ pub(crate) fn run(
     alloc: Global,
     words: &[&str],
     source: &mut MemSource,
-    sink: &mut MemSink,
+    sink: &mut impl Sink,
 ) -> Result<u8, Fail> {
     let line = command_line(alloc, words)?;
     let mut doors = MemDoors::new(alloc, Vec::new(alloc))?;
@@ -330,6 +330,8 @@ fn ends_at_the_first_fault(rt: HostRuntime) -> Result<(), Fail> {
         // The built-in ring has no device 9.
         ("\nshow 9 a/c/o", 3, "line 1: 7\n"),
         ("\nlose 9", 3, "line 1: 7\n"),
+        ("\nstop 9", 3, "line 1: 7\n"),
+        ("\nrestart 9", 3, "line 1: 7\n"),
         ("\nrecon 9 a/c/o", 3, "line 1: 7\n"),
         ("\nstart recon 9 a/c/o", 3, "line 1: 7\n"),
         // No message was made, and no operation was started.
@@ -385,10 +387,9 @@ fn filled(
     Ok(text)
 }
 
-// A line of 65,536 bytes, and one of 65,537 whose only fault is its length; accounts of 256 and of 257 bytes; an input of
-// one byte too many.
+// A line of 65,536 bytes, and one of 65,537 whose only fault is its length; accounts of 256 and of 257 bytes.
 #[test]
-fn bounds_lines_and_names_and_the_input(rt: HostRuntime) -> Result<(), Fail> {
+fn bounds_lines_and_names(rt: HostRuntime) -> Result<(), Fail> {
     let alloc = rt.alloc();
     let created = "e 1 created 1000000000.00000 3\n";
     let cases = [
@@ -396,11 +397,21 @@ fn bounds_lines_and_names_and_the_input(rt: HostRuntime) -> Result<(), Fail> {
         ("\nput a/c/oo ", b'6', 65_526, "", 3, "line 1: 5\n"),
         ("\nget ", b'x', 256, "/c/o", 0, "e 1 absent\n"),
         ("\nget ", b'x', 257, "/c/o", 3, "line 1: 4\n"),
-        ("", b'#', 67_108_864, "\n", 10, "input too long\n"),
     ];
     for (front, byte, count, back, status, text) in cases {
         let input = filled(alloc, front, byte, count, back)?;
         expect_run(&rt, alloc, &["play"], input, status, text)?;
+    }
+    Ok(())
+}
+
+// The input of each command has one byte too many.
+#[test]
+fn bounds_the_input(rt: HostRuntime) -> Result<(), Fail> {
+    let cases: [&[&str]; 3] = [&["play"], &["load", "1"], &["serve", "8080", "1"]];
+    for words in cases {
+        let input = vec![in rt.alloc(); b'#'; 67_108_865]?;
+        expect_run(&rt, rt.alloc(), words, input, 10, "input too long\n")?;
     }
     Ok(())
 }

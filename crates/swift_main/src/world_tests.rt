@@ -8,6 +8,12 @@ use std::test::Fail;
 use std::thread::Threads;
 use sw_io::{MemSink, MemSource};
 
+// A handoff serves two puts, and a disk is lost.
+pub(crate) const HANDOFF: &str =
+    "stop 1\nput a/c/o 616263\nrestart 1\nstop 0\nstart put a/c/o 646566\n\
+     msg 14\nmsg 15\nmsg 16\nmsg 17\nmsg 18\ngiveup 2\nmsg 19\nmsg 20\nmsg 21\nmsg 24\ngiveup 2\n\
+     restart 0\nrecon 3 a/c/o\nlose 0\nget a/c/o\n";
+
 // Runs a script over the built-in ring, and answers its status and the lines that it writes.
 fn run(
     rt: &(impl Threads + Wait + Sync),
@@ -105,11 +111,8 @@ fn interleaves_operations(rt: HostRuntime) -> Result<(), Fail> {
             "e 1 created 1000000000.00000 3\ne 2 created 1000000000.00001 3\n\
              e 4 created 1000000000.00002 3\ne 3 found 1000000000.00002 676869 0,1\n",
         ),
-        // A handoff serves two puts, and a disk is lost.
         (
-            "stop 1\nput a/c/o 616263\nrestart 1\nstop 0\nstart put a/c/o 646566\n\
-             msg 14\nmsg 15\nmsg 16\nmsg 17\nmsg 18\ngiveup 2\nmsg 19\nmsg 20\nmsg 21\nmsg 24\ngiveup 2\n\
-             restart 0\nrecon 3 a/c/o\nlose 0\nget a/c/o\n",
+            HANDOFF,
             "e 1 created 1000000000.00000 3\ne 2 too-few-commits 1\ne 3 revert 2 0\n\
              e 4 found 1000000000.00000 616263 1,2\n",
         ),
