@@ -9,18 +9,27 @@ use std::test::Fail;
 use sw_io::MemConn;
 use sw_types::Bytes;
 
-// How curl asks for an object, behind the method.
-const CAT_BY_CURL: &str =
-    "/v1/AUTH_test/photos/cat.jpg HTTP/1.1\r\nHost: 127.0.0.1:8080\r\nUser-Agent: curl/8.5.0\r\nAccept: */*\r\nX-Auth-Token: tk\r\n";
+// A put as curl sends it, whose body is to come; a get; and a put in chunks.
+const PUT: &str =
+    "PUT /v1/AUTH_test/photos/cat.jpg HTTP/1.1\r\nHost: 127.0.0.1:8080\r\nUser-Agent: curl/8.5.0\r\nAccept: */*\r\nX-Auth-Token: tk\r\nContent-Type: image/jpeg\r\nContent-Length: 3\r\nExpect: 100-continue\r\n\r\n";
 
-// What is answered: that a body may come, and, up to the last digit of the stamp, that `abc` was put and that it was found.
+const GET: &str =
+    "GET /v1/AUTH_test/photos/cat.jpg HTTP/1.1\r\nHost: 127.0.0.1:8080\r\nUser-Agent: curl/8.5.0\r\nAccept: */*\r\nX-Auth-Token: tk\r\n\r\n";
+
+const PUT_IN_CHUNKS: &str =
+    "PUT /v1/AUTH_test/photos/cat.jpg HTTP/1.1\r\nHost: 127.0.0.1:8080\r\nUser-Agent: curl/8.5.0\r\nAccept: */*\r\nX-Auth-Token: tk\r\nContent-Type: image/jpeg\r\nTransfer-Encoding: chunked\r\n\r\n3\r\nabc\r\n0\r\n\r\n";
+
+// That the body of the put may come, and what is answered where they come one behind the other.
 const LEAVE: &str = "HTTP/1.1 100 Continue\r\n\r\n";
 
 const CREATED: &str =
-    "HTTP/1.1 201 Created\r\nContent-Length: 0\r\nETag: 900150983cd24fb0d6963f7d28e17f72\r\nX-Timestamp: 1000000000.0000";
+    "HTTP/1.1 201 Created\r\nContent-Length: 0\r\nETag: 900150983cd24fb0d6963f7d28e17f72\r\nX-Timestamp: 1000000000.00000\r\nX-Commits: 3\r\n\r\n";
 
 const FOUND: &str =
-    "HTTP/1.1 200 OK\r\nContent-Length: 3\r\nContent-Type: image/jpeg\r\nETag: 900150983cd24fb0d6963f7d28e17f72\r\nX-Timestamp: 1000000000.0000";
+    "HTTP/1.1 200 OK\r\nContent-Length: 3\r\nContent-Type: image/jpeg\r\nETag: 900150983cd24fb0d6963f7d28e17f72\r\nX-Timestamp: 1000000000.00000\r\n\r\nabc";
+
+const CREATED_AGAIN: &str =
+    "HTTP/1.1 201 Created\r\nContent-Length: 0\r\nETag: 900150983cd24fb0d6963f7d28e17f72\r\nX-Timestamp: 1000000000.00001\r\nX-Commits: 3\r\n\r\n";
 
 // How a connection ends on which these bytes come, so many at a time, over new nodes, and what is written. Where calls are told, those
 // behind so many fail.
@@ -61,13 +70,12 @@ fn expect_served(
 #[test]
 fn requests_one_behind_the_other(rt: HostRuntime) -> Result<(), Fail> {
     let alloc = rt.alloc();
-    let put = format!(in alloc; "PUT {CAT_BY_CURL}Content-Type: image/jpeg\r\n")?;
     let to = "/v1/AUTH_test/photos/cat.jpg HTTP/1.1\r\nHost: h\r\n";
     let text = format!(in alloc;
-        "{put}Content-Length: 3\r\nExpect: 100-continue\r\n\r\nabcGET {to}\r\n{put}Transfer-Encoding: chunked\r\n\r\n3\r\nabc\r\n0\r\n\r\nHEAD {to}\r\nDELETE {to}\r\nGET {to}Connection: close\r\n\r\nGET {to}"
+        "{PUT}abc{GET}{PUT_IN_CHUNKS}HEAD {to}\r\nDELETE {to}\r\nGET {to}Connection: close\r\n\r\nGET {to}"
     )?;
     let want = format!(in alloc;
-        "{LEAVE}{CREATED}0\r\nX-Commits: 3\r\n\r\n{FOUND}0\r\n\r\nabc{CREATED}1\r\nX-Commits: 3\r\n\r\n{FOUND}1\r\n\r\nHTTP/1.1 204 No Content\r\n\r\nHTTP/1.1 404 Not Found\r\nContent-Length: 24\r\nContent-Type: text/plain\r\nConnection: close\r\n\r\nBuried 1000000000.00002\n"
+        "{LEAVE}{CREATED}{FOUND}{CREATED_AGAIN}HTTP/1.1 200 OK\r\nContent-Length: 3\r\nContent-Type: image/jpeg\r\nETag: 900150983cd24fb0d6963f7d28e17f72\r\nX-Timestamp: 1000000000.00001\r\n\r\nHTTP/1.1 204 No Content\r\n\r\nHTTP/1.1 404 Not Found\r\nContent-Length: 24\r\nContent-Type: text/plain\r\nConnection: close\r\n\r\nBuried 1000000000.00002\n"
     )?;
     expect_served(&rt, alloc, &text, ConnEnd::Closed, &want)
 }
@@ -183,19 +191,12 @@ fn expect_cut(
 #[test]
 fn cut_after_each_byte(rt: HostRuntime) -> Result<(), Fail> {
     let alloc = rt.alloc();
-    let get = format!(in alloc; "GET {CAT_BY_CURL}\r\n")?;
-    let put = format!(in alloc; "PUT {CAT_BY_CURL}Content-Type: image/jpeg\r\n")?;
-    let head = format!(in alloc; "{put}Content-Length: 3\r\nExpect: 100-continue\r\n\r\n")?;
-    let chunks = format!(in alloc; "{put}Transfer-Encoding: chunked\r\n\r\n3\r\nabc\r\n0\r\n\r\n")?;
-    let created = format!(in alloc; "{CREATED}0\r\nX-Commits: 3\r\n\r\n")?;
-    let found = format!(in alloc; "{FOUND}0\r\n\r\nabc")?;
-    let again = format!(in alloc; "{CREATED}1\r\nX-Commits: 3\r\n\r\n")?;
     // What comes, what is written once it is there, and whether a request ends with it.
     let pieces = [
-        (head.as_str(), LEAVE, false),
-        ("abc", created.as_str(), true),
-        (get.as_str(), found.as_str(), true),
-        (chunks.as_str(), again.as_str(), true),
+        (PUT, LEAVE, false),
+        ("abc", CREATED, true),
+        (GET, FOUND, true),
+        (PUT_IN_CHUNKS, CREATED_AGAIN, true),
     ];
     let (mut bytes, mut want) = (Vec::new(alloc), Vec::new(alloc));
     let mut is_whole = true;
