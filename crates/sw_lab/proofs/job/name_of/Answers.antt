@@ -1,5 +1,4 @@
-use Rattle.std.proofs.Common.{◌≡◌, List, ℕ, ap, ◌∙◌}
-use Rattle.sw_types.specs.Name.{NameModel, name_fault}
+use Rattle.std.proofs.Common.{◌≡◌, ◌∙◌}
 use Rattle.sw_lab.proofs.Names.{only_memory}
 use Rattle.sw_lab.specs.Workload.{name_of}
 use Rattle.sw_lab.proofs.job.name_of.Goals as goal
