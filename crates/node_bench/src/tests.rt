@@ -148,39 +148,45 @@ fn answers_as_a_handoff(rt: HostRuntime) -> Result<(), Fail> {
     Ok(())
 }
 
-// Messages to a handoff, its answers, and what it has behind each.
-const SCRIPT: [(Request, &str, &str); 7] = [
+// Messages to a handoff, its answers, what it answers where one that was done comes again, and what it has behind each.
+const SCRIPT: [(Request, &str, &str, &str); 7] = [
     (
         Request::PutFrag(0, 2),
+        "synced",
         "synced",
         "held (1000000000.00000 2 plain)",
     ),
     (
         Request::Commit(0, 2),
         "committed",
+        "committed",
         "held (1000000000.00000 2 durable)",
     ),
     (
         Request::PutFrag(1, 0),
+        "synced",
         "synced",
         "held (1000000000.00000 2 durable) (1000000000.00001 0 plain)",
     ),
     (
         Request::Commit(1, 0),
         "committed",
+        "committed",
         "held (1000000000.00000 2 durable) (1000000000.00001 0 durable)",
     ),
     (
         Request::Fetch(1, 0),
+        "fragment of 103 bytes",
         "fragment of 103 bytes",
         "held (1000000000.00000 2 durable) (1000000000.00001 0 durable)",
     ),
     (
         Request::Delete(2),
         "deleted yes",
+        "deleted no",
         "held (1000000000.00000 2 durable) (1000000000.00001 0 durable) (1000000000.00002 tombstone)",
     ),
-    (Request::Remove(0, 2), "removed", LAST),
+    (Request::Remove(0, 2), "removed", "missing", LAST),
 ];
 
 const LAST: &str = "held (1000000000.00001 0 durable) (1000000000.00002 tombstone)";
@@ -196,14 +202,14 @@ fn run_failing(rt: &(impl Abort + AllocGlobal), call: u64) -> Result<u32> {
     let disk = MemDisk::new(alloc, 1 << 20, vec![in alloc; call]?);
     let mut server = Server::start(alloc, 3, disk)?;
     let mut faults = 0u32;
-    for (request, text, _) in SCRIPT {
+    for (request, text, done, _) in SCRIPT {
         let told = request.tell(alloc, &mut server)?;
         if told.as_str() == FAULT {
             faults = faults.saturating_add(1);
             // What a message had already taken away, it does not find when it comes again.
             let again = request.tell(alloc, &mut server)?;
             assert!(rt;
-                [text, "deleted no", "missing"].contains(&again.as_str()),
+                [text, done].contains(&again.as_str()),
                 "call {call}: {again}"
             );
         } else {
@@ -234,7 +240,7 @@ fn run_stopped(rt: &(impl Abort + AllocGlobal), calls: u64, pick: u64) -> Result
     disk.fuse(calls);
     let mut server = Server::start(alloc, 3, disk)?;
     let mut before = "held";
-    for (request, _, after) in SCRIPT {
+    for (request, _, _, after) in SCRIPT {
         let told = request.tell(alloc, &mut server)?;
         if told.as_str() == FAULT {
             let mut disk = server.stop();

@@ -1,6 +1,7 @@
 mod AnyPieces
 pub mod Archives
 mod Cuts
+mod DataPieces
 mod Decisions
 mod Decodings
 pub mod Faults

@@ -1,5 +1,5 @@
 -- What is decoded from archives, one segment after the other.
-use Rattle.std.specs.Prelude.{◌≡◌, ◌≢◌, ◌≤◌, ◌<◌, ℕ, ◌+◌, ◌-◌, List, ◌++◌, length, take, drop}
+use Rattle.std.specs.Prelude.{◌≡◌, ◌≢◌, ◌≤◌, ◌<◌, ℕ, suc, ◌+◌, ◌-◌, List, [], ◌∷◌, ◌++◌, ⊤, length, take, drop}
 use Rattle.std.specs.List.{All, AllPairs}
 use Rattle.sw_types.specs.Object.{greatest_body}
 use Rattle.sw_cauchy.specs.Share.{GatherModel, Share}
@@ -27,6 +27,11 @@ HasCode layout gather = (gather.k ≡ layout.code.k) × (gather.m ≡ layout.cod
 -- so many bytes of a payload, with the archive's index
 abbrev pub share_at : ℕ → ℕ → ArchiveModel → Share
 share_at offset width archive = record { index = archive.index; bytes = take width (drop offset archive.payload) }
+
+-- archives of the fragments from an index on, in their order
+abbrev pub AreDataFrom : ℕ → List ArchiveModel → Type 0
+AreDataFrom index [] = ⊤
+AreDataFrom index (archive ∷ others) = (archive.index ≡ index) × AreDataFrom (suc index) others
 
 -- the payloads have the fragments of these pieces there
 abbrev pub HavePieces : ℕ → ℕ → ℕ → List ℕ → List ArchiveModel → Type 0

@@ -1,12 +1,13 @@
 //! Bodies and payloads are decoded from archives, segment by segment.
 
-ghost use Rattle.std.specs.Prelude.{◌≡◌, ◌+◌, ◌*◌, ◌<◌, ◌≤◌, ◌++◌, List, ℕ, IfOk, OnOk, length, map, take};
+ghost use Rattle.std.specs.Prelude.{◌≡◌, ◌+◌, ◌*◌, ◌<◌, ◌≤◌, ◌++◌, List, ℕ, IfOk, IsTrue, OnOk, length, map, take};
 ghost use Rattle.std.specs.List.{All};
 ghost use Rattle.sw_words.specs.Bytes.{IsBytes};
 ghost use Rattle.sw_types.specs.Object.{greatest_body};
+ghost use Rattle.sw_types.specs.Policy.{greatest_total};
 ghost use Rattle.sw_cauchy.specs.Stripe.{fragment, fragment_width};
 ghost use Rattle.sw_archive.specs.Assemble.{AreEnough, AreTogether};
-ghost use Rattle.sw_archive.specs.Decoding.{AreLaidOut, HasCode, HavePieces, IsRebuilt, laid_length, share_at};
+ghost use Rattle.sw_archive.specs.Decoding.{AreDataFrom, AreLaidOut, HasCode, HavePieces, IsRebuilt, laid_length, share_at};
 ghost use Rattle.sw_archive.specs.Pieces.{IsDecoded};
 
 use crate::archive::Archive;
@@ -110,8 +111,47 @@ fn push_segment(
         (pieces : List ℕ) → IsBytes pieces → length pieces ≡ layout.code.k * width → HavePieces layout.code.k offset width pieces archives.now →
         OnOk result (out.new.items ≡ out.old.items ++ take count pieces) }
 {
+    if are_data(archives, 0) {
+        return push_pieces(out, archives, layout, offset, count);
+    }
     gather_fragments(gather, archives, layout, offset, count)?;
     gather.push_segment(out, count)
+}
+
+// Whether these are archives of the data fragments from an index on, in their order.
+fn are_data(archives: &[Archive], index: u32) -> bool
+    requires { index + length archives.now ≤ greatest_total }
+    ensures { IsTrue result → AreDataFrom index archives.now }
+{
+    match archives.split_first() {
+        Some((first, others)) => first.index() == index && are_data(others, index + 1),
+        None => true,
+    }
+}
+
+// Adds the segment of so many bytes whose pieces stand there in the payloads of all data fragments.
+fn push_pieces(
+    out: &mut Vec<u8>,
+    archives: &[Archive],
+    layout: Layout,
+    offset: usize,
+    count: usize,
+) -> Result<(), NoMemory>
+    requires laid_out { AreLaidOut layout archives.now }
+    requires data { AreDataFrom 0 archives.now }
+    requires reach { offset + fragment_width layout.code.k count ≤ laid_length layout }
+    ensures length { OnOk result (length out.new.items ≡ length out.old.items + count) }
+    ensures decoded { let width = fragment_width layout.code.k count in
+        (pieces : List ℕ) → IsBytes pieces → length pieces ≡ layout.code.k * width → HavePieces layout.code.k offset width pieces archives.now →
+        OnOk result (out.new.items ≡ out.old.items ++ take count pieces) }
+{
+    let start = out.len();
+    let width = layout.code.fragment_width(count);
+    for archive in archives {
+        out.extend_from_slice(&archive.payload()[offset..offset + width])?;
+    }
+    out.truncate(start + count);
+    Ok(())
 }
 
 // The fragment of an index of that segment.

@@ -1,10 +1,10 @@
 -- The fragments of a segment: how wide each is, its bytes, how many there are, and the one at an index; the segment with
 -- zeros behind it; and what is decoded from its fragments.
-use Rattle.std.proofs.Common.{◌≡◌, ℕ, zero, suc, ◌+◌, ◌-◌, ◌*◌, ◌/◌, ◌<◌, ◌≤◌, List, [], ◌∷◌, ◌++◌, Result, IfOk, length, take, replicate, get_or, refl, sym, ap, subst, ◌∙◌, inl, inr, arith, length-append}
+use Rattle.std.proofs.Common.{◌≡◌, ℕ, zero, suc, ◌+◌, ◌-◌, ◌*◌, ◌/◌, ◌<◌, ◌≤◌, List, [], ◌∷◌, ◌++◌, Result, IfOk, length, take, drop, replicate, get_or, refl, sym, ap, subst, ◌∙◌, inl, inr, arith, length-append}
 use Rattle.std.specs.List.{All}
-use Rattle.std.proofs.Math.Nat.{lt-div-mul-add, mul_comm}
-use Rattle.std.proofs.lemmas.Bool.{cases_lt}
-use Rattle.std.proofs.lemmas.List.{get_or_past, length-replicate, take_at}
+use Rattle.std.proofs.Math.Nat.{lt-div-mul-add, mul-le-mul_right, mul_comm}
+use Rattle.std.proofs.lemmas.Bool.{cases_lt, lt-ltb}
+use Rattle.std.proofs.lemmas.List.{ext_get_or, get_or-drop, get_or-take, get_or_past, length-drop, length-replicate, length-take-le, take_at}
 use Rattle.std.proofs.lemmas.List.FromFn.{length-map-range_with_len, get_or-map-range_with_len}
 use Rattle.std.proofs.lemmas.Result.{IfOk-weaker}
 use Rattle.sw_words.specs.Bytes.{IsBytes}
@@ -13,7 +13,7 @@ use Rattle.sw_cauchy.specs.Matrix.{entry, row_sum}
 use Rattle.sw_cauchy.specs.Share.{AreFragments, GatherModel}
 use Rattle.sw_cauchy.specs.Stripe.{fragment, fragment_byte, fragment_width, padded, segment_fragment, segment_fragments}
 use Rattle.sw_cauchy.proofs.GeneratorRows.{entry-lt}
-use Rattle.sw_cauchy.proofs.RowSums.{row_sum-lt, row_sum-same}
+use Rattle.sw_cauchy.proofs.RowSums.{row_sum-lt, row_sum-same, row_sum-unit}
 
 -- ---- the segment with zeros behind it
 
@@ -72,6 +72,22 @@ IsBytes-fragment k width pieces i bytes position =
           (row_sum-lt k (entry k i) _ (λ j h. entry-lt k i j) (λ j h. bytes (j * width + position)))
       | inr high ↦ subst (λ n. n < 256) (sym (get_or_past (fragment k width pieces i) position 0 (omega (arith, high, length-fragment k width pieces i)))) (omega arith)
     ]
+
+-- a byte of a data fragment is that of its piece
+pub data_byte : (k width i : ℕ) (pieces : List ℕ) (position : ℕ) → i < k → position < width → IsBytes pieces → get_or (fragment k width pieces i) position 0 ≡ get_or pieces (i * width + position) 0
+data_byte k width i pieces position low below bytes =
+    get_or-fragment k width pieces i position below
+    ∙ row_sum-unit k i (entry k i) (λ j. get_or pieces (j * width + position) 0) low (λ j l. rw (lt-ltb i k low) refl) (bytes _)
+
+-- a data fragment is its piece
+pub data_fragment : (k width i : ℕ) (pieces : List ℕ) → i < k → IsBytes pieces → length pieces ≡ k * width → fragment k width pieces i ≡ take width (drop (i * width) pieces)
+data_fragment k width i pieces low bytes whole =
+    let more : (i + 1) * width ≤ k * width = mul-le-mul_right width (omega (arith, low)) in
+    let room : width ≤ length (drop (i * width) pieces) = omega (arith, more, whole, length-drop (i * width) pieces) in
+    ext_get_or 0 _ _ (length-fragment k width pieces i ∙ sym (length-take-le width (drop (i * width) pieces) room))
+    (λ position within.
+    let below : position < width = omega (arith, within, length-fragment k width pieces i) in
+    data_byte k width i pieces position low below bytes ∙ sym (get_or-take width (drop (i * width) pieces) position 0 below ∙ get_or-drop (i * width) pieces position 0))
 
 -- the width of a segment's
 pub length-segment_fragment : (k : ℕ) (segment : List ℕ) (i : ℕ) → length (segment_fragment k segment i) ≡ fragment_width k (length segment)

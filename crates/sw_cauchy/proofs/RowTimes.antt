@@ -1,7 +1,7 @@
 -- A row times pieces, byte by byte and piece by piece, and the fragments that it gives.
 use Rattle.std.proofs.Common.{◌≡◌, ℕ, ◌+◌, ◌-◌, ◌*◌, ◌<◌, ◌≤◌, min, List, ◌++◌, length, map, get_or, take, drop, replicate, refl, sym, ap, ap₂, ◌∙◌, inl, inr, add-one, arith, bit_xor, length-append}
 use Rattle.std.specs.List.{range_with_len}
-use Rattle.std.proofs.lemmas.Bool.{cases_lt, lt-ltb}
+use Rattle.std.proofs.lemmas.Bool.{cases_lt}
 use Rattle.std.proofs.lemmas.List.{ext_get_or, get_or-replicate, length-replicate, length-take, length-take-le, length-drop, get_or-take, get_or-drop, get_or_past, get_or_append_left, get_or-append_right}
 use Rattle.std.proofs.lemmas.List.FromFn.{length-map-range_with_len, get_or-map-range_with_len}
 use lib.Bits.{xor_zero_r}
@@ -10,11 +10,11 @@ use Rattle.sw_gf256.specs.Field.{product, plus_multiple}
 use Rattle.sw_gf256.proofs.FieldLaws.{product_zero}
 use Rattle.sw_cauchy.specs.Matrix.{entry, row_sum}
 use Rattle.sw_cauchy.specs.Rows.{generator_row, row_times}
-use Rattle.sw_cauchy.specs.Stripe.{fragment_width, segment_fragment}
-use Rattle.sw_cauchy.proofs.Fragments.{length-segment_fragment, get_or-segment_fragment}
+use Rattle.sw_cauchy.specs.Stripe.{fragment, fragment_width, padded, segment_fragment}
+use Rattle.sw_cauchy.proofs.Fragments.{IsBytes-padded, data_byte, get_or-padded, get_or-segment_fragment, length-segment_fragment}
 use Rattle.sw_cauchy.proofs.GeneratorRows.{length-generator_row, get_or-generator_row}
 use Rattle.sw_cauchy.proofs.Multiples.{length-plus_multiple, get_or-plus_multiple}
-use Rattle.sw_cauchy.proofs.RowSums.{row_sum-same, row_sum-unit}
+use Rattle.sw_cauchy.proofs.RowSums.{row_sum-same}
 
 -- a row times pieces is as wide as they are
 pub length-row_times : (count width : ℕ) (row : ℕ → ℕ) (pieces : List ℕ) → length (row_times count width row pieces) ≡ width
@@ -108,4 +108,4 @@ fragment_from_piece k width segment i low bytes e =
     ext_get_or 0 _ _ (length-map-range_with_len (λ position. get_or segment (i * width + position) 0) 0 width ∙ e ∙ sym (length-segment_fragment k segment i))
     (λ position h. let below : position < width = omega (arith, length-map-range_with_len (λ position. get_or segment (i * width + position) 0) 0 width) in
     get_or-map-range_with_len (λ position. get_or segment (i * width + position) 0) 0 width position position 0 below (omega arith)
-    ∙ sym (get_or-segment_fragment k segment i width position e below ∙ row_sum-unit k i (entry k i) (λ j. get_or segment (j * width + position) 0) low (λ j l. rw (lt-ltb i k low) refl) (bytes _)))
+    ∙ sym (ap (λ w. get_or (fragment k w (padded k segment) i) position 0) (sym e) ∙ data_byte k width i (padded k segment) position low below (IsBytes-padded k segment bytes) ∙ get_or-padded k segment (i * width + position)))

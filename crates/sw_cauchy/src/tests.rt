@@ -125,6 +125,23 @@ fn any_k_fragments_give_the_others(rt: HostRuntime) -> Result<(), Fail> {
     Ok(())
 }
 
+// One gather, used again for fragments of another width.
+#[test]
+fn a_gather_is_used_again(rt: HostRuntime) -> Result<(), Fail> {
+    let alloc = rt.alloc();
+    let mut gather = Gather::new(alloc, Code::new(2, 1), 2)?;
+    gather.add(0, &[0, 1]);
+    gather.add(1, &[2, 3]);
+    let segment = gather.finish(alloc, 4)?;
+    assert_eq!(rt; segment.as_slice(), [0, 1, 2, 3].as_slice());
+    gather.again(1)?;
+    gather.add(0, &[8]);
+    gather.add(1, &[0]);
+    let segment = gather.finish(alloc, 1)?;
+    assert_eq!(rt; segment.as_slice(), [8].as_slice());
+    Ok(())
+}
+
 #[test]
 fn fragments_of_isal(rt: HostRuntime) -> Result<(), Fail> {
     let alloc = rt.alloc();

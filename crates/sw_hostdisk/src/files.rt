@@ -79,8 +79,9 @@ pub(crate) fn read_file<R: Host>(
     path: &HostPath,
 ) -> Result<Vec<u8>, HostFault> {
     let size = size_of(host, path)? as usize;
-    let mut bytes = vec![in alloc; 0; size]?;
-    File::open(host, path.as_str())?.read_exact(&mut bytes)?;
+    // With room for one byte more, the end is found without another room.
+    let mut bytes = Vec::with_capacity(alloc, size.saturating_add(1))?;
+    File::open(host, path.as_str())?.read_to_end(&mut bytes)?;
     Ok(bytes)
 }
 
