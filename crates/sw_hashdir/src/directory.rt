@@ -43,7 +43,7 @@ impl HashDir {
     pub fn of(alloc: Global, texts: &[String]) -> Result<HashDir, NoMemory>
         ensures { IfOk result (λ dir. IsDirectory (map string_bytes texts.now) dir) }
     {
-        let mut names = Vec::new(alloc);
+        let mut names = Vec::with_capacity(alloc, texts.len())?;
         for text in texts {
             if let Some(name) = FileName::read(text.as_str()) {
                 names.push(name)?;

@@ -1,6 +1,6 @@
 //! Decimal digits.
 
-ghost use Rattle.std.specs.Prelude.{◌≡◌, ◌<◌, ◌^◌, ◌↔◌, ℕ, IfSome, IsTrue, Some, length};
+ghost use Rattle.std.specs.Prelude.{◌≡◌, ◌<◌, ◌≤◌, ◌^◌, ◌↔◌, ℕ, IfSome, IsTrue, Some, length};
 ghost use Rattle.std.specs.Fmt.{decimal};
 ghost use Rattle.std.specs.Str.Parse.{IsNumeral, digits_value};
 ghost use Rattle.sw_types.specs.Decimal.{last_digits};
@@ -16,6 +16,22 @@ pub(crate) fn write_digits(text: &mut [u8], number: u64)
         text[place] = b'0' + (rest % 10) as u8;
         rest /= 10;
     }
+}
+
+// The number whose last digits, as many as the text is long, the text is, or `None` where a byte is no digit.
+pub(crate) fn read_digits(text: &[u8]) -> Option<u64>
+    requires { length text.now ≤ 15 }
+    ensures found { IfSome result (λ number. (text.now ≡ last_digits (length text.now) number) × (number < 10 ^ length text.now)) }
+    ensures reads { (number : ℕ) → number < 10 ^ length text.now → text.now ≡ last_digits (length text.now) number → result ≡ Some number }
+{
+    let mut number = 0;
+    for byte in text {
+        if !byte.is_ascii_digit() {
+            return None;
+        }
+        number = number * 10 + u64::from(*byte - b'0');
+    }
+    Some(number)
 }
 
 /// The number that these digits write, with zeros in front or none, where they are digits and it is below 2^64.

@@ -1,9 +1,9 @@
 //! Timestamps.
 
-ghost use Rattle.std.specs.Prelude.{◌≡◌, ◌≤◌, ℕ, IfSome, Some, SomeIff, length};
+ghost use Rattle.std.specs.Prelude.{◌≡◌, ◌≤◌, ℕ, IfSome, Some, SomeIff};
 ghost use Rattle.sw_types.specs.Stamp.{greatest_stamp, stamp_text};
 
-use crate::decimal::{number_of, write_digits};
+use crate::decimal::{read_digits, write_digits};
 use std::fmt;
 use std::marker::Model;
 
@@ -63,27 +63,13 @@ impl Stamp {
         ensures found { IfSome result (λ stamp. text.now ≡ stamp_text stamp) }
         ensures reads { (stamp : ℕ) → stamp ≤ greatest_stamp → text.now ≡ stamp_text stamp → result ≡ Some stamp }
     {
-        if text.len() != 16 {
+        if text.len() != 16 || text[10] != b'.' {
             return None;
         }
-        let stamp = Stamp::make(units_of(text)?)?;
-        if stamp.print().as_slice() == text {
-            Some(stamp)
-        } else {
-            None
-        }
+        let seconds = read_digits(&text[..10])?;
+        let fraction = read_digits(&text[11..16])?;
+        Stamp::make(seconds * 100_000 + fraction)
     }
-}
-
-// The number of units that a text of sixteen bytes tells, ten digits of seconds before a byte and five behind it, where
-// there is one.
-fn units_of(text: &[u8]) -> Option<u64>
-    requires { length text.now ≡ 16 }
-    ensures { (stamp : ℕ) → stamp ≤ greatest_stamp → text.now ≡ stamp_text stamp → result ≡ Some stamp }
-{
-    let seconds = number_of(&text[..10])?;
-    let fraction = number_of(&text[11..16])?;
-    seconds.checked_mul(100_000)?.checked_add(fraction)
 }
 
 impl fmt::Display for Stamp {
