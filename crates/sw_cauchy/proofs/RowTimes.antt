@@ -8,7 +8,7 @@ use lib.Bits.{xor_zero_r}
 use Rattle.sw_words.specs.Bytes.{IsBytes}
 use Rattle.sw_gf256.specs.Field.{product, plus_multiple}
 use Rattle.sw_gf256.proofs.FieldLaws.{product_zero}
-use Rattle.sw_cauchy.specs.Matrix.{entry, row_sum}
+use Rattle.sw_cauchy.specs.Matrix.{row_sum}
 use Rattle.sw_cauchy.specs.Rows.{generator_row, row_times}
 use Rattle.sw_cauchy.specs.Stripe.{fragment, fragment_width, padded, segment_fragment}
 use Rattle.sw_cauchy.proofs.Fragments.{IsBytes-padded, data_byte, get_or-padded, get_or-segment_fragment, length-segment_fragment}

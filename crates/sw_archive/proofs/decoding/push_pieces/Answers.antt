@@ -1,4 +1,4 @@
-use Rattle.std.proofs.Common.{◌≡◌, ◌≤◌, subst, ◌+◌, ◌-◌, ◌*◌, ◌++◌, List, ℕ, take, drop, length, sym, ap, ◌∙◌, arith, rules, length-append}
+use Rattle.std.proofs.Common.{◌≡◌, ◌≤◌, subst, ◌+◌, ◌-◌, ◌*◌, ◌++◌, take, drop, length, sym, ap, ◌∙◌, arith, length-append}
 use Rattle.std.proofs.Math.Seq.{take-append-add}
 use Rattle.std.proofs.lemmas.List.{length-take-le, length-drop}
 use Rattle.sw_cauchy.specs.Stripe.{fragment_width}
